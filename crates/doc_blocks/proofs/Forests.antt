@@ -1,9 +1,10 @@
 -- Blocks in a row, block by block.
 use Rattle.std.proofs.Common.{◌≡◌, ℕ, Bool, List, [], ◌∷◌, ◌++◌, map, refl, ap, sym, ◌∙◌, chars}
-use Rattle.std.specs.Prelude.{Option}
+use Rattle.std.specs.Prelude.{Option, option_map}
 use Rattle.doc_rules.specs.Forests.{none, ◌▹◌, node}
 use Rattle.doc_rules.specs.Blocks.{Paragraph, Heading, IndentedCode, FencedCode, HtmlBlock, ThematicBreak, BlockQuote, ListBlock, ListItem}
-use Rattle.doc_rules.specs.Blocks.{Blocks}
+use Rattle.doc_rules.specs.Blocks.{TableBlock, Task, Blocks}
+use Rattle.doc_blocks_starts.specs.Tables.{lines_in, source_of}
 use Rattle.doc_blocks.specs.declared.block.Block.{Block, fold-roll-Block}
 use Rattle.doc_blocks.specs.declared.block.Block.TheOpen.{Block-F}
 use Rattle.doc_blocks.specs.declared.block.Block.TheVariants as variants
@@ -59,6 +60,19 @@ pub behind_break : (before : Blocks) → behind variants.Break before ≡ before
 unfolding behind step
 behind_break before = ap (λ b. behind b before) (sym variants.rolls-Break)
     ∙ ap (λ f. f before) (fold-roll-Block (Blocks → Blocks) step Block-F.Break)
+
+pub behind_table : (header delimiters : List ℕ) (rows : Option (List ℕ)) (before : Blocks)
+    → behind (variants.Table header delimiters rows) before
+    ≡ before ▹ TableBlock (source_of (chars header) (chars delimiters) (lines_in (option_map chars rows)))
+unfolding behind step
+behind_table header delimiters rows before = ap (λ b. behind b before) (sym (variants.rolls-Table header delimiters rows))
+    ∙ ap (λ f. f before) (fold-roll-Block (Blocks → Blocks) step (Block-F.Table header delimiters rows))
+
+pub behind_task : (done : Bool) (text : List ℕ) (before : Blocks)
+    → behind (variants.Task done text) before ≡ before ▹ Task done (chars text)
+unfolding behind step
+behind_task done text before = ap (λ b. behind b before) (sym (variants.rolls-Task done text))
+    ∙ ap (λ f. f before) (fold-roll-Block (Blocks → Blocks) step (Block-F.Task done text))
 
 pub behind_quote : (inside : _) (before : Blocks) → behind (variants.Quote inside) before
     ≡ node before BlockQuote (blocks_shown inside.items)

@@ -7,3 +7,4 @@ pub mod ContentLaws
 pub mod Forests
 pub mod BuilderLaws
 pub mod TreeLaws
+pub mod TaskLaws

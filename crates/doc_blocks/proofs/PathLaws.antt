@@ -3,7 +3,7 @@ use Rattle.std.proofs.Common.{◌≡◌, ◌∙◌, ℕ, zero, suc, ◌+◌, ◌
 use Rattle.std.proofs.Common.{ap, sym, arith, add-one, append_assoc, append-nil, Option, Some, None}
 use Rattle.std.proofs.lemmas.List.{take-append-le, drop-append-le, take_all, drop_all}
 use Rattle.doc_rules.specs.Columns.{Line}
-use Rattle.doc_rules.specs.Entities.{Table}
+use Rattle.doc_rules.specs.Rules.{Rules}
 use Rattle.doc_rules.specs.Trees.{Situation}
 use Rattle.doc_blocks_leaves.specs.Leaves.{OpenLeaf, NoLeaf, OpenParagraph, OpenCode, OpenFence, OpenHtml, taken, Taken, NotTaken, GoesOn}
 use Rattle.doc_blocks_leaves.specs.Leaves.{Closes, open_references}
@@ -27,11 +27,11 @@ descent_at passed below rest = record { passed = passed; below = below; rest = r
 -- ---- going down
 
 -- what a line does at an open container, once it is known whether it goes on with the line
-unfoldable pub line_matched : ℕ → Table → Line → Outer → Path → Option Line → Moved
-line_matched room table line o path m = elim m [
-  | Some rest ↦ moved_inside o.0 (gone_on o.1) (line_step (room - 1) table rest path)
+unfoldable pub line_matched : ℕ → Rules → Line → Outer → Path → Option Line → Moved
+line_matched room rules line o path m = elim m [
+  | Some rest ↦ moved_inside o.0 (gone_on o.1) (line_step (room - 1) rules rest path)
   | None ↦
-      start_step room table (lazy_path_situation path) line (Inside o.0 o.1 path)
+      start_step room rules (lazy_path_situation rules path) line (Inside o.0 o.1 path)
 ]
 
 unfoldable pub descent_matched : Line → Outer → List Outer → Option Line → Descent
@@ -41,21 +41,21 @@ descent_matched line o more m = elim m [
       record { passed = []; below = o ∷ more; rest = line }
 ]
 
-unfoldable pub stopped_at : ℕ → Table → Level → OpenLeaf → Bool → Descent → Moved
-stopped_at room table level leaf blank d = moved_within d.passed (stopped (room_behind room d.passed) table d.rest d.below level leaf blank)
+unfoldable pub stopped_at : ℕ → Rules → Level → OpenLeaf → Bool → Descent → Moved
+stopped_at room rules level leaf blank d = moved_within d.passed (stopped (room_behind room d.passed) rules d.rest d.below level leaf blank)
 
 -- a line goes down the open containers, and then does what it does where it stops
-pub goes_down : (room : ℕ) (table : Table) (line : Line) (outer : List Outer) (level : Level) (leaf : OpenLeaf) (blank : Bool) →
-    line_step room table line (inside outer (Here level leaf blank)) ≡ stopped_at room table level leaf blank (descended outer line)
+pub goes_down : (room : ℕ) (rules : Rules) (line : Line) (outer : List Outer) (level : Level) (leaf : OpenLeaf) (blank : Bool) →
+    line_step room rules line (inside outer (Here level leaf blank)) ≡ stopped_at room rules level leaf blank (descended outer line)
 unfolding line_step descended line_matched descent_matched stopped_at
-goes_down room table line [] level leaf blank = refl
-goes_down room table line (o ∷ more) level leaf blank = at_one (matched_open o.1 line)
-    (λ rest. goes_down (room - 1) table rest more level leaf blank)
+goes_down room rules line [] level leaf blank = refl
+goes_down room rules line (o ∷ more) level leaf blank = at_one (matched_open o.1 line)
+    (λ rest. goes_down (room - 1) rules rest more level leaf blank)
   where
-    at_one : (m : Option Line) → ((rest : Line) → line_step (room - 1) table rest (inside more (Here level leaf blank))
-        ≡ stopped_at (room - 1) table level leaf blank (descended more rest)) →
-        line_matched room table line o (inside more (Here level leaf blank)) m
-        ≡ stopped_at room table level leaf blank (descent_matched line o more m)
+    at_one : (m : Option Line) → ((rest : Line) → line_step (room - 1) rules rest (inside more (Here level leaf blank))
+        ≡ stopped_at (room - 1) rules level leaf blank (descended more rest)) →
+        line_matched room rules line o (inside more (Here level leaf blank)) m
+        ≡ stopped_at room rules level leaf blank (descent_matched line o more m)
     at_one None further_down = refl
     at_one (Some rest) further_down = ap (moved_inside o.0 (gone_on o.1)) (further_down rest)
 
@@ -75,26 +75,26 @@ room_left room (o ∷ more) = room_left (room - 1) more ∙ omega arith
 
 -- ---- the situation
 
-pub situation_lazy : (outer : List Outer) (level : Level) (leaf : OpenLeaf) (blank : Bool)
-    → lazy_path_situation (inside outer (Here level leaf blank)) ≡ lazy_leaf leaf
+pub situation_lazy : (rules : Rules) (outer : List Outer) (level : Level) (leaf : OpenLeaf) (blank : Bool)
+    → lazy_path_situation rules (inside outer (Here level leaf blank)) ≡ lazy_leaf rules leaf
 unfolding lazy_path_situation paragraph_of
-situation_lazy [] level NoLeaf blank = refl
-situation_lazy [] level (OpenParagraph text) blank = refl
-situation_lazy [] level (OpenCode all kept) blank = refl
-situation_lazy [] level (OpenFence fence info text) blank = refl
-situation_lazy [] level (OpenHtml kind all kept) blank = refl
-situation_lazy (o ∷ more) level leaf blank = situation_lazy more level leaf blank
+situation_lazy rules [] level NoLeaf blank = refl
+situation_lazy rules [] level (OpenParagraph text) blank = refl
+situation_lazy rules [] level (OpenCode all kept) blank = refl
+situation_lazy rules [] level (OpenFence fence info text) blank = refl
+situation_lazy rules [] level (OpenHtml kind all kept) blank = refl
+situation_lazy rules (o ∷ more) level leaf blank = situation_lazy rules more level leaf blank
 
 -- where the open leaf takes no line, blocks may begin
-pub stopped_starts : (room : ℕ) (table : Table) (line : Line) (outer : List Outer) (level : Level) (leaf : OpenLeaf) (blank : Bool)
+pub stopped_starts : (room : ℕ) (rules : Rules) (line : Line) (outer : List Outer) (level : Level) (leaf : OpenLeaf) (blank : Bool)
     → (outer ≡ [] → taken line leaf ≡ NotTaken) →
-    stopped room table line outer level leaf blank ≡ start_step room table (situation_in outer leaf) line
+    stopped room rules line outer level leaf blank ≡ start_step room rules (situation_in rules outer leaf) line
     (inside outer (Here level leaf blank))
 unfolding leaf_takes
-stopped_starts room table line [] level leaf blank e = at_leaf leaf (taken line leaf) (e refl)
+stopped_starts room rules line [] level leaf blank e = at_leaf leaf (taken line leaf) (e refl)
   where
-    at_leaf : (l : OpenLeaf) (t : Taken) → t ≡ NotTaken → leaf_takes room table line level l blank t
-        ≡ start_step room table (situation_in [] l) line (Here level l blank)
+    at_leaf : (l : OpenLeaf) (t : Taken) → t ≡ NotTaken → leaf_takes room rules line level l blank t
+        ≡ start_step room rules (situation_in rules [] l) line (Here level l blank)
     at_leaf NoLeaf NotTaken f = refl
     at_leaf (OpenParagraph text) NotTaken f = refl
     at_leaf (OpenCode all kept) NotTaken f = refl
@@ -102,16 +102,17 @@ stopped_starts room table line [] level leaf blank e = at_leaf leaf (taken line 
     at_leaf (OpenHtml kind all kept) NotTaken f = refl
     at_leaf l (GoesOn next b) f = cc
     at_leaf l (Closes next b) f = cc
-stopped_starts room table line (o ∷ more) level leaf blank e =
-    ap (λ (s : Situation). start_step room table s line (inside (o ∷ more) (Here level leaf blank))) (situation_lazy more level leaf blank)
+stopped_starts room rules line (o ∷ more) level leaf blank e =
+    ap (λ (s : Situation). start_step room rules s line (inside (o ∷ more) (Here level leaf blank)))
+    (situation_lazy rules more level leaf blank)
 
 -- ---- closing
 
-pub closes_inside : (table : Table) (outer : List Outer) (level : Level) (leaf : OpenLeaf) (blank : Bool)
-    → closed table (inside outer (Here level leaf blank)) ≡ closed_in outer (leaf_closed table level leaf)
+pub closes_inside : (rules : Rules) (outer : List Outer) (level : Level) (leaf : OpenLeaf) (blank : Bool)
+    → closed rules (inside outer (Here level leaf blank)) ≡ closed_in outer (leaf_closed rules level leaf)
 unfolding closed
-closes_inside table [] level leaf blank = refl
-closes_inside table (o ∷ more) level leaf blank = ap (container_closed o.0 o.1) (closes_inside table more level leaf blank)
+closes_inside rules [] level leaf blank = refl
+closes_inside rules (o ∷ more) level leaf blank = ap (container_closed o.0 o.1) (closes_inside rules more level leaf blank)
 
 pub blank_inside : (outer : List Outer) (level : Level) (leaf : OpenLeaf) (blank : Bool)
     → path_blank (inside outer (Here level leaf blank)) ≡ blank_in outer blank
@@ -120,11 +121,11 @@ blank_inside [] level leaf blank = refl
 blank_inside ((l, OpenQuote) ∷ more) level leaf blank = refl
 blank_inside ((l, OpenItem columns is_empty) ∷ more) level leaf blank = blank_inside more level leaf blank
 
-pub references_inside : (table : Table) (outer : List Outer) (level : Level) (leaf : OpenLeaf) (blank : Bool)
-    → path_references table (inside outer (Here level leaf blank)) ≡ open_references table leaf
+pub references_inside : (rules : Rules) (outer : List Outer) (level : Level) (leaf : OpenLeaf) (blank : Bool)
+    → path_references rules (inside outer (Here level leaf blank)) ≡ open_references rules leaf
 unfolding path_references
-references_inside table [] level leaf blank = refl
-references_inside table (o ∷ more) level leaf blank = references_inside table more level leaf blank
+references_inside rules [] level leaf blank = refl
+references_inside rules (o ∷ more) level leaf blank = references_inside rules more level leaf blank
 
 pub closed_in_push : (outer : List Outer) (o : Outer) (level : Level)
     → closed_in (outer ++ o ∷ []) level ≡ closed_in outer (container_closed o.0 o.1 level)

@@ -7,7 +7,7 @@ use Rattle.doc_rules.specs.Characters.{Text, one_of, is_space_or_tab}
 use Rattle.doc_rules.specs.Columns.{Line, Cell, skip, indent, after_indent, text_of}
 use Rattle.doc_rules.specs.ContainerStarts.{Bullet, ListMarker, ItemStart, behind_quote_marker, quote_start, digits_of, bullet_marker}
 use Rattle.doc_rules.specs.ContainerStarts.{ordered_marker, list_marker, item_of, item_start}
-use Rattle.doc_rules.specs.Entities.{Table}
+use Rattle.doc_rules.specs.Rules.{Rules}
 use Rattle.doc_rules.specs.Escapes.{number}
 use Rattle.doc_rules.specs.LeafStarts.{marker_text}
 use Rattle.doc_rules.specs.Trees.{Situation, LeafStart, text_begins, leaf_begins}
@@ -92,13 +92,13 @@ no_item line none = at (nat_le (indent line) 3)
     at true = ap (option_and_then (item_of line)) none
     at false = refl
 
-abbrev leaf_by : Table → Situation → Line → Option Text → Option LeafStart
-leaf_by table situation line text = elim text [ None ↦ None | Some text ↦ text_begins table situation line text ]
+abbrev leaf_by : Rules → Situation → Line → Option Text → Option LeafStart
+leaf_by rules situation line text = elim text [ None ↦ None | Some text ↦ text_begins rules situation line text ]
 
-leaf_of : (table : Table) (situation : Situation) (line : Line) (text : Option Text) → text ≡ marker_text line
-    → leaf_begins table situation line ≡ leaf_by table situation line text
+leaf_of : (rules : Rules) (situation : Situation) (line : Line) (text : Option Text) → text ≡ marker_text line
+    → leaf_begins rules situation line ≡ leaf_by rules situation line text
 unfolding leaf_begins
-leaf_of table situation line text e = ap (leaf_by table situation line) (sym e)
+leaf_of rules situation line text e = ap (leaf_by rules situation line) (sym e)
 
 margin_false : (line : Line) → None ≡ marker_text line → nat_le (indent line) 3 ≡ false
 unfolding marker_text
@@ -123,7 +123,7 @@ nothing_too_far line e =
     let far : nat_le (indent line) 3 ≡ false = margin_false line e in
     record {
       quote = ap (quote_by line) far;
-      leaf = λ table situation. leaf_of table situation line None e;
+      leaf = λ rules situation. leaf_of rules situation line None e;
       item = ap (item_by line) far;
     }
 
@@ -133,8 +133,8 @@ nothing_at_end line text e none =
     let same : text_of (after_indent line) ≡ [] = text_behind line text e ∙ none in
     record {
       quote = no_quote line (no_quote_in (after_indent line) same);
-      leaf = λ table situation. leaf_of table situation line (Some text) e ∙ ap (text_begins table situation line) none
-          ∙ sym (starts.at_end table situation line);
+      leaf = λ rules situation. leaf_of rules situation line (Some text) e ∙ ap (text_begins rules situation line) none
+          ∙ sym (starts.at_end rules situation line);
       item = no_item line (no_marker_in (after_indent line) same);
     }
 
@@ -165,7 +165,7 @@ nothing_at line text c rest e here other =
     ∙ (ap (λ b. b || ((c == 42) || false)) plus.0 ∙ ap (λ b. b || false) star.0) in
     record {
       quote = no_quote line (no_quote_at (after_indent line) c rest same quote.0);
-      leaf = λ table situation. leaf_of table situation line (Some text) e ∙ ap (text_begins table situation line) here
-          ∙ sym (starts.at_other table situation line c rest number.0 tick.0 tilde.0 angle.0 equals.0 hyphen.0 star.0 low.0 gap);
+      leaf = λ rules situation. leaf_of rules situation line (Some text) e ∙ ap (text_begins rules situation line) here
+          ∙ sym (starts.at_other rules situation line c rest number.0 tick.0 tilde.0 angle.0 equals.0 hyphen.0 star.0 low.0 gap);
       item = no_item line (no_marker_at (after_indent line) c rest same signs.1 bullet);
     }

@@ -8,3 +8,4 @@ pub mod StateSteps
 pub mod BuilderSteps
 pub mod Views
 pub mod TreeSteps
+pub mod TaskSteps

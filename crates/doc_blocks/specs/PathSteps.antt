@@ -1,9 +1,11 @@
 -- What a line does on a path, said of the open containers in a row: those that go on with it, and the rest.
-use Rattle.std.specs.Prelude.{◌≡◌, ℕ, zero, suc, ◌+◌, ◌-◌, Bool, List, [], ◌∷◌, ◌++◌, take, drop, Option, Some, None}
+use Rattle.std.specs.Prelude.{◌≡◌, ℕ, zero, suc, ◌+◌, ◌-◌, Bool, List, [], ◌∷◌, ◌++◌, take, drop, Option, Some, None, ◌&&◌, if◌then◌else◌}
 use Rattle.doc_rules.specs.Columns.{Line}
-use Rattle.doc_rules.specs.Entities.{Table}
+use Rattle.doc_rules.specs.Rules.{Rules}
 use Rattle.doc_rules.specs.ContainerStarts.{ListKind}
-use Rattle.doc_rules.specs.Trees.{Situation, NoParagraph, InParagraph, LazyParagraph}
+use Rattle.doc_rules.specs.Characters.{Text}
+use Rattle.doc_rules.specs.Tables.{has_table}
+use Rattle.doc_rules.specs.Trees.{Situation, NoParagraph, LazyParagraph, paragraph_situation}
 use Rattle.doc_blocks_leaves.specs.Leaves.{OpenLeaf, OpenParagraph, taken}
 use Rattle.doc_blocks_leaves.specs.Paths.{Level, OpenItem, Path, Here, Inside, item_begun_at, matched_open, gone_on, lazy_path_situation}
 use Rattle.doc_blocks_leaves.specs.Closing.{container_closed, closed, path_blank, path_references}
@@ -56,20 +58,25 @@ room_behind room [] = room
 room_behind room (o ∷ more) = room_behind (room - 1) more
 
 -- what the line does where it stops, above these containers
-abbrev pub stopped : ℕ → Table → Line → List Outer → Level → OpenLeaf → Bool → Moved
-stopped room table line [] level leaf blank = leaf_takes room table line level leaf blank (taken line leaf)
-stopped room table line (o ∷ more) level leaf blank =
-    start_step room table (lazy_path_situation (inside more (Here level leaf blank))) line (inside (o ∷ more) (Here level leaf blank))
+abbrev pub stopped : ℕ → Rules → Line → List Outer → Level → OpenLeaf → Bool → Moved
+stopped room rules line [] level leaf blank = leaf_takes room rules line level leaf blank (taken line leaf)
+stopped room rules line (o ∷ more) level leaf blank =
+    start_step room rules (lazy_path_situation rules (inside more (Here level leaf blank))) line (inside (o ∷ more) (Here level leaf blank))
 
--- the paragraph that the line meets there
-abbrev pub lazy_leaf : OpenLeaf → Situation
-lazy_leaf (OpenParagraph text) = LazyParagraph
-lazy_leaf leaf = NoParagraph
+-- the paragraph that the line meets there: one with a table in it is none, but that the line may be a row where all containers go on
+abbrev pub lazy_leaf : Rules → OpenLeaf → Situation
+lazy_leaf rules (OpenParagraph text) = if rules.tables && has_table text then NoParagraph else LazyParagraph
+lazy_leaf rules leaf = NoParagraph
 
-abbrev pub situation_in : List Outer → OpenLeaf → Situation
-situation_in [] (OpenParagraph text) = InParagraph text
-situation_in [] leaf = NoParagraph
-situation_in (o ∷ more) leaf = lazy_leaf leaf
+abbrev pub situation_in : Rules → List Outer → OpenLeaf → Situation
+situation_in rules [] (OpenParagraph text) = paragraph_situation rules text
+situation_in rules [] leaf = NoParagraph
+situation_in rules (o ∷ more) leaf = lazy_leaf rules leaf
+
+-- the open paragraph, where none of these containers stands round it
+abbrev pub paragraph_in : List Outer → OpenLeaf → Option Text
+paragraph_in [] (OpenParagraph text) = Some text
+paragraph_in outer leaf = None
 
 -- ---- closing
 
@@ -95,10 +102,10 @@ closed_to depth s = record {
 -- ---- what begins
 
 -- an item begins behind a path, and this is inside
-abbrev pub item_moved : Table → Path → ListKind → ℕ → (columns : ℕ) → (is_empty : Bool) → Moved → Moved
-item_moved table path kind start columns is_empty m = record {
-  path = Inside (item_begun_at (closed table path) (path_blank path) kind start) (OpenItem columns is_empty) m.path;
-  refs = path_references table path ++ m.refs;
+abbrev pub item_moved : Rules → Path → ListKind → ℕ → (columns : ℕ) → (is_empty : Bool) → Moved → Moved
+item_moved rules path kind start columns is_empty m = record {
+  path = Inside (item_begun_at (closed rules path) (path_blank path) kind start) (OpenItem columns is_empty) m.path;
+  refs = path_references rules path ++ m.refs;
 }
 
 -- ---- places

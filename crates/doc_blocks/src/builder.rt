@@ -6,7 +6,8 @@
 //! paragraph, and the containers round it stay open. `put_text` decides it, where it asks whether any paragraph is open and not whether
 //! that stands at `depth`. `met` tells both apart for those that care: an underline is never lazy, and an item that may not interrupt a
 //! paragraph of its own containers does begin where the paragraph is open further in.
-ghost use Rattle.std.specs.Prelude.{◌≡◌, ◌+◌, ◌-◌, ℕ, true, false, not, None, OnOk, IfOk, vec_len};
+ghost use Rattle.std.specs.Prelude.{◌≡◌, ◌+◌, ◌-◌, ◌&&◌, ℕ, true, false, None, OnOk, IfOk, chars, drop, vec_len};
+ghost use Rattle.std.specs.Option.{is_some};
 ghost use Rattle.std.specs.FinMap as finite;
 ghost use Rattle.doc_rules.specs.ContainerStarts.{quote_start, item_start};
 ghost use Rattle.doc_rules.specs.Trees as rules;
@@ -15,10 +16,12 @@ ghost use Rattle.doc_blocks_leaves.specs.OpenBlocks.{leaf_begun, leaf_step, text
 ghost use Rattle.doc_lines.specs.Cursors.{left_of};
 ghost use Rattle.doc_blocks_starts.specs.Lines.{inside_of};
 ghost use Rattle.doc_blocks_starts.specs.Items.{item_taken, kind_of};
+ghost use Rattle.doc_blocks_leaves.specs.OpenLeaves.{holds_table};
 ghost use Rattle.doc_blocks_leaves.specs.Starts.{situation_of, start_shown, leaf_lines};
+ghost use Rattle.doc_blocks.specs.PathSteps.{paragraph_in};
 ghost use Rattle.doc_blocks.specs.StackSteps.{empty_stack};
 ghost use Rattle.doc_blocks.specs.StateSteps.{below, met, shown, reached, leaf_done, all_closed, quote_opened, item_opened, lines_opened, item_met, StepsTo, after_line};
-ghost use Rattle.doc_blocks.specs.BuilderSteps.{state_of, IsReady, IsBegun, IsInParagraph, IsTaken};
+ghost use Rattle.doc_blocks.specs.BuilderSteps.{state_of, situation_at, IsReady, IsBegun, IsInParagraph, IsTaken};
 ghost use Rattle.doc_blocks.specs.LevelSteps.{IsSound};
 
 use crate::container::Container;
@@ -26,7 +29,7 @@ use crate::levels::Levels;
 use crate::plain_line::begins_nothing;
 use doc_blocks_leaves::leaf::{LineTaken, OpenLeaf};
 use doc_blocks_leaves::line::is_indented;
-use doc_blocks_leaves::start::{LeafStart, NewLeaf, Situation, leaf_start};
+use doc_blocks_leaves::start::{LeafStart, NewLeaf, Situation, goes_on_with, leaf_start};
 use doc_blocks_starts::indentation::is_blank_line;
 use doc_blocks_starts::item::{Item, take_item};
 use doc_blocks_starts::quote::take_quote;
@@ -72,8 +75,9 @@ impl<'t> Builder<'t> {
         if !self.leaf.is_open() {
             return Ok(());
         }
-        let block = self.leaf.close(heap, entities, &mut self.refs)?;
-        self.levels.put(block)?;
+        let blocks = self.leaf.close(heap, entities, &mut self.refs)?;
+        self.levels.put(blocks.block)?;
+        self.levels.put(blocks.table)?;
         Ok(())
     }
 
@@ -133,18 +137,26 @@ impl<'t> Builder<'t> {
     }
 
     /// The paragraph that a line meets inside the first so many containers.
-    fn met(&self, depth: usize) -> Situation<'_>
+    fn met(&self, entities: &Entities, depth: usize) -> Situation<'_>
         requires { IsReady self.now depth }
-        ensures { situation_of result ≡ met depth (state_of self.now) }
+        ensures { situation_of result ≡ met entities.now depth (state_of self.now) }
     {
         let text = match self.leaf.paragraph() {
             Some(text) => text,
             None => return Situation::NoParagraph,
         };
+        let table = self.is_in_table(entities);
         if depth < self.levels.depth() {
-            return Situation::LazyParagraph;
+            return situation_at(text, true, table);
         }
-        Situation::InParagraph(text)
+        situation_at(text, false, table)
+    }
+
+    /// Whether the open leaf is a paragraph with a table in it, where tables are read.
+    fn is_in_table(&self, entities: &Entities) -> bool
+        ensures { result ≡ (entities.now.tables && holds_table self.now.leaf) }
+    {
+        entities.tables() && self.leaf.holds_table()
     }
 
     /// A line begins this leaf.
@@ -211,7 +223,7 @@ impl<'t> Builder<'t> {
             ≡ shown (state_of self.new)) }
         ensures sound { OnOk result (IsSound self.new.levels) }
     {
-        if !self.is_in_paragraph(depth) {
+        if !self.is_at_paragraph(depth) {
             return Ok(());
         }
         let block = self.leaf.underline(heap, level, entities, &mut self.refs)?;
@@ -220,11 +232,23 @@ impl<'t> Builder<'t> {
         Ok(())
     }
 
-    fn is_in_paragraph(&self, depth: usize) -> bool
+    /// Whether a paragraph is open, with a table in it or not, and no container round it that the line didn't go down.
+    fn is_at_paragraph(&self, depth: usize) -> bool
         requires { IsReady self.now depth }
-        ensures { IsInParagraph (met depth (state_of self.now)) result }
+        ensures { result ≡ is_some (paragraph_in (drop depth (state_of self.now).stack.outer)
+            (state_of self.now).leaf) }
     {
-        matches!(self.met(depth), Situation::InParagraph(_))
+        if depth < self.levels.depth() {
+            return false;
+        }
+        self.leaf.paragraph().is_some()
+    }
+
+    fn is_in_paragraph(&self, entities: &Entities, depth: usize) -> bool
+        requires { IsReady self.now depth }
+        ensures { IsInParagraph (met entities.now depth (state_of self.now)) result }
+    {
+        matches!(self.met(entities, depth), Situation::InParagraph(_))
     }
 
     /// A line that begins nothing: a blank line, a line of the open paragraph, indented code, or a new paragraph.
@@ -238,7 +262,7 @@ impl<'t> Builder<'t> {
         requires { IsReady self.old depth }
         ensures reached { OnOk result
             (reached depth (state_of self.old)
-            (text_put entities.now (met depth (state_of self.old)) (left_of line.now)
+            (text_put entities.now (met entities.now depth (state_of self.old)) (left_of line.now)
             (below depth (state_of self.old))) ≡ shown (state_of self.new)) }
         ensures sound { OnOk result (IsSound self.new.levels) }
     {
@@ -248,7 +272,7 @@ impl<'t> Builder<'t> {
             return Ok(());
         }
         // Also where the paragraph is open further in than the line went down: then the line is lazy.
-        if self.meets_paragraph() {
+        if goes_on_with(self.met(entities, depth), line) {
             self.leaf.continue_paragraph(line)?;
             return Ok(());
         }
@@ -262,17 +286,6 @@ impl<'t> Builder<'t> {
         Ok(())
     }
 
-    /// Whether a paragraph is open, at the innermost level or for a lazy line.
-    fn meets_paragraph(&self) -> bool
-        ensures { (depth : ℕ) → rules.has_no_paragraph (met depth (state_of self.now))
-            ≡ not result }
-    {
-        match self.leaf.paragraph() {
-            Some(_) => true,
-            None => false,
-        }
-    }
-
     /// A line in front of which no more containers may begin, or that begins none: a leaf or text.
     fn put_leaf(
         &mut self,
@@ -284,11 +297,11 @@ impl<'t> Builder<'t> {
         requires { IsReady self.old depth }
         ensures reached { OnOk result
             (reached depth (state_of self.old)
-            (leaf_step entities.now (met depth (state_of self.old)) (left_of line.now)
+            (leaf_step entities.now (met entities.now depth (state_of self.old)) (left_of line.now)
             (below depth (state_of self.old))) ≡ shown (state_of self.new)) }
         ensures sound { OnOk result (IsSound self.new.levels) }
     {
-        match leaf_start(heap, self.met(depth), line, entities)? {
+        match leaf_start(heap, self.met(entities, depth), line, entities)? {
             Some(start) => {
                 self.begin_leaf(heap, entities, depth, line, start)?;
                 Ok(())
@@ -323,7 +336,7 @@ impl<'t> Builder<'t> {
             self.begin_quote(heap, entities, depth)?;
             return Ok(true);
         }
-        if let Some(start) = leaf_start(heap, self.met(depth), line, entities)? {
+        if let Some(start) = leaf_start(heap, self.met(entities, depth), line, entities)? {
             self.begin_leaf(heap, entities, depth, line, start)?;
             return Ok(false);
         }
@@ -341,7 +354,7 @@ impl<'t> Builder<'t> {
     ) -> Result<bool, Memory>
         requires ready { IsReady self.old depth }
         requires quote { quote_start (left_of line.old) ≡ None }
-        requires leaf { rules.leaf_begins entities.now (met depth (state_of self.old))
+        requires leaf { rules.leaf_begins entities.now (met entities.now depth (state_of self.old))
             (left_of line.old) ≡ None }
         ensures steps { IfOk result (λ inside. (room : ℕ)
             → StepsTo entities.now room depth (state_of self.old) (left_of line.old)
@@ -350,7 +363,7 @@ impl<'t> Builder<'t> {
             (λ inside. IsBegun self.new (depth + 1) (inside_of inside line.new)) }
     {
         let mut inside = line.copy();
-        let Some(item) = self.take_item(depth, &mut inside) else {
+        let Some(item) = self.take_item(entities, depth, &mut inside) else {
             self.put_text(heap, entities, depth, line)?;
             return Ok(false);
         };
@@ -365,13 +378,13 @@ impl<'t> Builder<'t> {
 
     /// Takes the marker of the item that a line may begin: some may not interrupt a paragraph of their own containers. Where no item
     /// begins, the line is left anywhere.
-    fn take_item(&self, depth: usize, line: &mut Cursor) -> Option<Item>
+    fn take_item(&self, entities: &Entities, depth: usize, line: &mut Cursor) -> Option<Item>
         requires { IsReady self.now depth }
-        ensures { item_taken result line.new ≡ item_met (met depth (state_of self.now))
+        ensures { item_taken result line.new ≡ item_met (met entities.now depth (state_of self.now))
             (item_start (left_of line.old)) }
     {
         let item = take_item(line)?;
-        if !self.is_in_paragraph(depth) {
+        if !self.is_in_paragraph(entities, depth) {
             return Some(item);
         }
         if !item.may_interrupt(line) {
@@ -391,7 +404,7 @@ impl<'t> Builder<'t> {
         requires { IsReady self.old from }
         ensures reached { OnOk result
             (reached from (state_of self.old)
-            (start_step (100 - from) entities.now (met from (state_of self.old))
+            (start_step (100 - from) entities.now (met entities.now from (state_of self.old))
             (left_of line.old) (below from (state_of self.old))) ≡ shown (state_of self.new)) }
         ensures sound { OnOk result (IsSound self.new.levels) }
     {
@@ -453,5 +466,17 @@ impl<'t> Builder<'t> {
                 Ok(true)
             }
         }
+    }
+}
+
+/// The paragraph that a line meets: one of this text, to which the line went down or not, and with a table in it or not.
+fn situation_at(text: &str, lazy: bool, table: bool) -> Situation<'_>
+    ensures { situation_of result ≡ situation_at (chars text.now) lazy table }
+{
+    match (lazy, table) {
+        (true, true) => Situation::NoParagraph,
+        (true, false) => Situation::LazyParagraph,
+        (false, true) => Situation::InTable,
+        (false, false) => Situation::InParagraph(text),
     }
 }

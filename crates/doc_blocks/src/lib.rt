@@ -24,6 +24,9 @@ mod document;
 mod levels;
 mod plain_line;
 mod tagged;
+mod tasks;
+#[cfg(test)]
+mod tests;
 mod tree;
 
 pub use block::Block;

@@ -11,6 +11,7 @@ ghost use Rattle.doc_blocks.specs.LevelSteps.{IsSound};
 
 use crate::builder::Builder;
 use crate::content::{FirstLine, first_line, secure_text};
+use crate::tasks::with_tasks;
 use doc_blocks_starts::tag::Tag;
 use doc_blocks_starts::texts::Texts;
 use doc_lines::cursor::Cursor;
@@ -88,7 +89,7 @@ fn finish<'t>(builder: Builder<'t>, heap: Heap, entities: &Entities) -> Result<T
         refs,
     } = builder;
     Ok(Tagged {
-        tags: levels.into_tags()?,
+        tags: with_tasks(levels.into_tags()?, entities),
         refs,
     })
 }

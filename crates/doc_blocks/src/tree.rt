@@ -1,5 +1,6 @@
 //! Trees of blocks, made of tags.
-ghost use Rattle.std.specs.Prelude.{◌≡◌, [], IfOk, OnOk};
+ghost use Rattle.std.specs.Prelude.{◌≡◌, [], chars, option_map, IfOk, OnOk};
+ghost use Rattle.doc_lines.specs.RestSteps.{rest_of};
 ghost use Rattle.doc_rules.specs.Blocks.{Blocks};
 ghost use Rattle.doc_rules.specs.Forests.{◌▹◌, node};
 ghost use Rattle.doc_blocks_starts.specs.Tags.{End, leaf_shown, container_shown, tag_shown, tags_shown};
@@ -94,6 +95,29 @@ fn leaf_of(heap: Heap, leaf: LeafBlock) -> Result<Block, Memory>
         }),
         LeafBlock::Html(text) => Ok(Block::Html(Text::copy_of(heap, text)?)),
         LeafBlock::Break => Ok(Block::Break),
+        LeafBlock::Table {
+            header,
+            delimiters,
+            rows,
+        } => Ok(Block::Table {
+            header: Text::copy_of(heap, header)?,
+            delimiters: Text::copy_of(heap, delimiters)?,
+            rows: rows_of(heap, rows)?,
+        }),
+        LeafBlock::Task { done, text } => Ok(Block::Task {
+            done,
+            text: Text::copy_of(heap, text)?,
+        }),
+    }
+}
+
+/// The lines of the rows of a table, if there are any.
+fn rows_of(heap: Heap, rows: Option<&str>) -> Result<Option<Text>, Memory>
+    ensures { IfOk result (λ copy. option_map chars copy ≡ rest_of rows.entry) }
+{
+    match rows {
+        Some(rows) => Ok(Some(Text::copy_of(heap, rows)?)),
+        None => Ok(None),
     }
 }
 

@@ -2,13 +2,14 @@
 use Rattle.std.proofs.Common.{◌≡◌, ℕ, Bool, true, false, List, ◌++◌, refl, ap, ap₂, sym, ◌∙◌, Option, Some, None, append_assoc, append-nil}
 use Rattle.std.proofs.Common.{eqb-true}
 use Rattle.std.specs.Prelude.{◌&&◌, ◌||◌, not, ⊤}
-use Rattle.doc_rules.specs.Entities.{Table}
+use Rattle.doc_rules.specs.Rules.{Rules}
 use Rattle.doc_rules.specs.Definitions.{Definition}
 use Rattle.doc_rules.specs.ContainerStarts.{ListKind, Bullet, Ordered, is_same_kind}
 use Rattle.doc_rules.specs.Forests.{none, ◌▹◌, node}
 use Rattle.doc_rules.specs.Trees.{LeafLines, FencedLines, HtmlLines, BlankLine, QuoteLines, ItemLines, ListLines, Tree}
 use Rattle.doc_rules.specs.Lists.{ends_blank, has_gap, LastList, last_list, with_item, listed}
-use Rattle.doc_rules.specs.Blocks.{Blocks, BlockQuote, ListItem, with_leaf, container_of, blocks_of, leaf_references, references_of}
+use Rattle.doc_rules.specs.Blocks.{tasks_read, Blocks, BlockQuote, ListItem, with_leaf, container_of, blocks_of, leaf_references}
+use Rattle.doc_rules.specs.Blocks.{references_of}
 use Rattle.doc_rules.specs.Blocks.{Document, tree_document}
 use Rattle.doc_blocks_leaves.specs.Leaves.{open_of, with_open}
 use Rattle.doc_blocks_leaves.specs.Paths.{OpenList, Level, empty_level, Path, finished_list, finished, first_item, one_more_item}
@@ -26,30 +27,30 @@ abbrev list_with : ListKind → ℕ → Bool → Blocks → OpenList
 list_with kind start tight items = record { kind = kind; start = start; tight = tight; items = items }
 
 -- its last list is open, also behind blank lines
-abbrev level_of : Table → Tree → Level
-level_of table none = empty_level
-level_of table (before ▹ BlankLine) = level_of table before
-level_of table (before ▹ leaf) = level_with (with_leaf table leaf (blocks_of table before)) None (ends_blank before || has_gap before)
-level_of table (node before (ListLines kind start tight) items) = level_with (blocks_of table before)
-    (Some (list_with kind start tight (blocks_of table items))) (ends_blank before || has_gap before)
-level_of table (node before container inside) = level_with (node (blocks_of table before) (container_of container)
-    (blocks_of table inside)) None (ends_blank before || has_gap before)
+abbrev level_of : Rules → Tree → Level
+level_of rules none = empty_level
+level_of rules (before ▹ BlankLine) = level_of rules before
+level_of rules (before ▹ leaf) = level_with (with_leaf rules leaf (blocks_of rules before)) None (ends_blank before || has_gap before)
+level_of rules (node before (ListLines kind start tight) items) = level_with (blocks_of rules before)
+    (Some (list_with kind start tight (blocks_of rules items))) (ends_blank before || has_gap before)
+level_of rules (node before container inside) = level_with (node (blocks_of rules before) (container_of container)
+    (blocks_of rules inside)) None (ends_blank before || has_gap before)
 
-finished_level : (table : Table) (tree : Tree) → finished (level_of table tree) ≡ blocks_of table tree
+finished_level : (rules : Rules) (tree : Tree) → finished (level_of rules tree) ≡ blocks_of rules tree
 unfolding finished_list blocks_of container_of with_leaf
-finished_level table none = refl
-finished_level table (before ▹ BlankLine) = finished_level table before
-finished_level table (before ▹ leaf) = refl
-finished_level table (node before (ListLines kind start tight) items) = refl
-finished_level table (node before container inside) = refl
+finished_level rules none = refl
+finished_level rules (before ▹ BlankLine) = finished_level rules before
+finished_level rules (before ▹ leaf) = refl
+finished_level rules (node before (ListLines kind start tight) items) = refl
+finished_level rules (node before container inside) = refl
 
-level_gap : (table : Table) (tree : Tree) → (level_of table tree).gap ≡ has_gap tree
+level_gap : (rules : Rules) (tree : Tree) → (level_of rules tree).gap ≡ has_gap tree
 unfolding has_gap
-level_gap table none = refl
-level_gap table (before ▹ BlankLine) = level_gap table before
-level_gap table (before ▹ leaf) = refl
-level_gap table (node before (ListLines kind start tight) items) = refl
-level_gap table (node before container inside) = refl
+level_gap rules none = refl
+level_gap rules (before ▹ BlankLine) = level_gap rules before
+level_gap rules (before ▹ leaf) = refl
+level_gap rules (node before (ListLines kind start tight) items) = refl
+level_gap rules (node before container inside) = refl
 
 -- ---- blank lines behind the last block
 
@@ -80,31 +81,31 @@ listed_blank (node before (ItemLines kind start columns) inside) = with_item_bla
     ∙ listed_blank inside
 listed_blank (node before (ListLines kind start tight) inside) = listed_blank inside
 
-leaf_path_blank : (table : Table) (path : Path) (before : Tree) (leaf : LeafLines)
-    → path_blank (leaf_path table path leaf) ≡ ends_blank (before ▹ leaf)
+leaf_path_blank : (rules : Rules) (path : Path) (before : Tree) (leaf : LeafLines)
+    → path_blank (leaf_path rules path leaf) ≡ ends_blank (before ▹ leaf)
 unfolding leaf_path path_blank open_of ends_blank
-leaf_path_blank table path before (FencedLines true fence info lines) = refl
-leaf_path_blank table path before (FencedLines false fence info lines) = refl
-leaf_path_blank table path before (HtmlLines true kind lines) = refl
-leaf_path_blank table path before (HtmlLines false kind lines) = refl
-leaf_path_blank table path before leaf = refl
+leaf_path_blank rules path before (FencedLines true fence info lines) = refl
+leaf_path_blank rules path before (FencedLines false fence info lines) = refl
+leaf_path_blank rules path before (HtmlLines true kind lines) = refl
+leaf_path_blank rules path before (HtmlLines false kind lines) = refl
+leaf_path_blank rules path before leaf = refl
 
-path_of_blank : (table : Table) (tree : Tree) → IsMade tree → path_blank (path_of table tree) ≡ ends_blank tree
+path_of_blank : (rules : Rules) (tree : Tree) → IsMade tree → path_blank (path_of rules tree) ≡ ends_blank tree
 unfolding path_of path_blank ends_blank
-path_of_blank table none h = refl
-path_of_blank table (before ▹ leaf) h = leaf_path_blank table (path_of table before) before leaf
-path_of_blank table (node before QuoteLines inside) h = refl
-path_of_blank table (node before (ItemLines kind start columns) inside) h = path_of_blank table inside h.1
-path_of_blank table (node before (ListLines kind start tight) inside) h = absurd h
+path_of_blank rules none h = refl
+path_of_blank rules (before ▹ leaf) h = leaf_path_blank rules (path_of rules before) before leaf
+path_of_blank rules (node before QuoteLines inside) h = refl
+path_of_blank rules (node before (ItemLines kind start columns) inside) h = path_of_blank rules inside h.1
+path_of_blank rules (node before (ListLines kind start tight) inside) h = absurd h
 
 -- ---- items
 
 -- an item behind a level: of the list that was found, or of a new one
-abbrev IsListOf : Table → ListKind → Level → Option LastList → Type 0
-IsListOf table kind level None = (blank : Bool) (start : ℕ) → item_begun_at level blank kind start ≡ first_item level blank kind start
-IsListOf table kind level (Some l) = (blank : Bool) (start : ℕ) →
-    item_begun_at level blank kind start ≡ level_with (blocks_of table l.before)
-    (Some (list_with kind l.start (l.tight && not blank) (blocks_of table l.items))) (ends_blank l.before || has_gap l.before)
+abbrev IsListOf : Rules → ListKind → Level → Option LastList → Type 0
+IsListOf rules kind level None = (blank : Bool) (start : ℕ) → item_begun_at level blank kind start ≡ first_item level blank kind start
+IsListOf rules kind level (Some l) = (blank : Bool) (start : ℕ) →
+    item_begun_at level blank kind start ≡ level_with (blocks_of rules l.before)
+    (Some (list_with kind l.start (l.tight && not blank) (blocks_of rules l.items))) (ends_blank l.before || has_gap l.before)
 
 same_kind : (a b : ListKind) → is_same_kind a b ≡ true → a ≡ b
 unfolding is_same_kind
@@ -113,30 +114,30 @@ same_kind (Ordered a) (Ordered b) e = ap Ordered (eqb-true a b e)
 same_kind (Bullet a) (Ordered b) e = absurd cc
 same_kind (Ordered a) (Bullet b) e = absurd cc
 
-list_at : (table : Table) (kind other : ListKind) (before items : Tree) (start : ℕ) (tight : Bool) (b : Bool)
+list_at : (rules : Rules) (kind other : ListKind) (before items : Tree) (start : ℕ) (tight : Bool) (b : Bool)
     → is_same_kind other kind ≡ b →
-    IsListOf table kind (level_of table (node before (ListLines other start tight) items))
+    IsListOf rules kind (level_of rules (node before (ListLines other start tight) items))
     (elim b [ true ↦ Some (record { before = before; start = start; tight = tight; items = items }) | false ↦ None ])
 unfolding item_begun_in
-list_at table kind other before items start tight true e = λ blank first.
-    let level : Level = level_of table (node before (ListLines other start tight) items) in
-    let list : OpenList = list_with other start tight (blocks_of table items) in
+list_at rules kind other before items start tight true e = λ blank first.
+    let level : Level = level_of rules (node before (ListLines other start tight) items) in
+    let list : OpenList = list_with other start tight (blocks_of rules items) in
     ap (λ b. elim b [ true ↦ one_more_item level list blank | false ↦ first_item level blank kind first ]) e
-    ∙ ap (λ k. level_with (blocks_of table before) (Some (list_with k start (tight && not blank) (blocks_of table items)))
+    ∙ ap (λ k. level_with (blocks_of rules before) (Some (list_with k start (tight && not blank) (blocks_of rules items)))
     (ends_blank before || has_gap before)) (same_kind other kind e)
-list_at table kind other before items start tight false e = λ blank first.
-    let level : Level = level_of table (node before (ListLines other start tight) items) in
-    let list : OpenList = list_with other start tight (blocks_of table items) in
+list_at rules kind other before items start tight false e = λ blank first.
+    let level : Level = level_of rules (node before (ListLines other start tight) items) in
+    let list : OpenList = list_with other start tight (blocks_of rules items) in
     ap (λ b. elim b [ true ↦ one_more_item level list blank | false ↦ first_item level blank kind first ]) e
 
-last_list_level : (table : Table) (kind : ListKind) (tree : Tree) → IsListOf table kind (level_of table tree) (last_list kind tree)
+last_list_level : (rules : Rules) (kind : ListKind) (tree : Tree) → IsListOf rules kind (level_of rules tree) (last_list kind tree)
 unfolding last_list item_begun_in
-last_list_level table kind none = λ blank start. refl
-last_list_level table kind (before ▹ BlankLine) = last_list_level table kind before
-last_list_level table kind (before ▹ leaf) = λ blank start. refl
-last_list_level table kind (node before (ListLines other start tight) items) = list_at table kind other before items start tight
+last_list_level rules kind none = λ blank start. refl
+last_list_level rules kind (before ▹ BlankLine) = last_list_level rules kind before
+last_list_level rules kind (before ▹ leaf) = λ blank start. refl
+last_list_level rules kind (node before (ListLines other start tight) items) = list_at rules kind other before items start tight
     (is_same_kind other kind) refl
-last_list_level table kind (node before container inside) = λ blank start. refl
+last_list_level rules kind (node before container inside) = λ blank start. refl
 
 tight_with : (tight a b : Bool) → (tight && not a) && not b ≡ tight && not (a || b)
 tight_with true true b = refl
@@ -153,154 +154,155 @@ or_swap false false = refl
 abbrev item_done : Level → Level → Level
 item_done level inside = item_closed level level.list inside
 
-item_level_at : (table : Table) (kind : ListKind) (start columns : ℕ) (inside before : Tree) (found : Option LastList)
-    → IsListOf table kind (level_of table before) found →
-    item_done (item_begun_at (level_of table before) (ends_blank before) kind start) (level_of table inside)
-    ≡ level_of table (elim found [
+item_level_at : (rules : Rules) (kind : ListKind) (start columns : ℕ) (inside before : Tree) (found : Option LastList)
+    → IsListOf rules kind (level_of rules before) found →
+    item_done (item_begun_at (level_of rules before) (ends_blank before) kind start) (level_of rules inside)
+    ≡ level_of rules (elim found [
       | Some l ↦ node l.before (ListLines kind l.start (l.tight && not (ends_blank before || has_gap inside)))
           (node l.items (ItemLines kind start columns) inside)
       | None ↦ node before (ListLines kind start (not (has_gap inside))) (node none (ItemLines kind start columns) inside)
     ])
 unfolding item_closed blocks_of container_of
-item_level_at table kind start columns inside before None agrees =
-    ap (λ level. item_done level (level_of table inside)) (agrees (ends_blank before) start)
+item_level_at rules kind start columns inside before None agrees =
+    ap (λ level. item_done level (level_of rules inside)) (agrees (ends_blank before) start)
     ∙ (ap₂ (λ blocks gap. level_with blocks
-    (Some (list_with kind start (not (level_of table inside).gap) (node none ListItem (finished (level_of table inside))))) gap)
-    (finished_level table before) (ap (λ b. b || ends_blank before) (level_gap table before) ∙ or_swap (has_gap before) (ends_blank before))
-    ∙ ap₂ (λ gap items. level_with (blocks_of table before) (Some (list_with kind start (not gap) (node none ListItem items)))
+    (Some (list_with kind start (not (level_of rules inside).gap) (node none ListItem (finished (level_of rules inside))))) gap)
+    (finished_level rules before) (ap (λ b. b || ends_blank before) (level_gap rules before) ∙ or_swap (has_gap before) (ends_blank before))
+    ∙ ap₂ (λ gap items. level_with (blocks_of rules before) (Some (list_with kind start (not gap) (node none ListItem items)))
     (ends_blank before || has_gap before))
-    (level_gap table inside) (finished_level table inside))
-item_level_at table kind start columns inside before (Some l) agrees =
-    ap (λ level. item_done level (level_of table inside)) (agrees (ends_blank before) start)
-    ∙ ap₂ (λ tight items. level_with (blocks_of table l.before)
-    (Some (list_with kind l.start tight (node (blocks_of table l.items) ListItem items))) (ends_blank l.before || has_gap l.before))
-    (ap (λ b. (l.tight && not (ends_blank before)) && not b) (level_gap table inside)
-    ∙ tight_with l.tight (ends_blank before) (has_gap inside)) (finished_level table inside)
+    (level_gap rules inside) (finished_level rules inside))
+item_level_at rules kind start columns inside before (Some l) agrees =
+    ap (λ level. item_done level (level_of rules inside)) (agrees (ends_blank before) start)
+    ∙ ap₂ (λ tight items. level_with (blocks_of rules l.before)
+    (Some (list_with kind l.start tight (node (blocks_of rules l.items) ListItem items))) (ends_blank l.before || has_gap l.before))
+    (ap (λ b. (l.tight && not (ends_blank before)) && not b) (level_gap rules inside)
+    ∙ tight_with l.tight (ends_blank before) (has_gap inside)) (finished_level rules inside)
 
-item_level : (table : Table) (kind : ListKind) (start columns : ℕ) (inside before : Tree) →
-    item_done (item_begun_at (level_of table before) (ends_blank before) kind start) (level_of table inside)
-    ≡ level_of table (with_item kind start columns inside before)
+item_level : (rules : Rules) (kind : ListKind) (start columns : ℕ) (inside before : Tree) →
+    item_done (item_begun_at (level_of rules before) (ends_blank before) kind start) (level_of rules inside)
+    ≡ level_of rules (with_item kind start columns inside before)
 unfolding with_item
-item_level table kind start columns inside before = item_level_at table kind start columns inside before (last_list kind before)
-    (last_list_level table kind before)
+item_level rules kind start columns inside before = item_level_at rules kind start columns inside before (last_list kind before)
+    (last_list_level rules kind before)
 
 -- ---- the blocks
 
 -- a block behind a path that closed, and behind a tree with lists
-block_behind : (table : Table) (path : Path) (before : Tree) (put : Blocks → Blocks) → closed table path ≡ level_of table (listed before)
+block_behind : (rules : Rules) (path : Path) (before : Tree) (put : Blocks → Blocks) → closed rules path ≡ level_of rules (listed before)
     → path_blank path ≡ ends_blank before →
-    level_with (put (finished (closed table path))) None ((closed table path).gap || path_blank path)
-    ≡ level_with (put (blocks_of table (listed before))) None (ends_blank (listed before) || has_gap (listed before))
-block_behind table path before put e f =
+    level_with (put (finished (closed rules path))) None ((closed rules path).gap || path_blank path)
+    ≡ level_with (put (blocks_of rules (listed before))) None (ends_blank (listed before) || has_gap (listed before))
+block_behind rules path before put e f =
     ap₂ (λ blocks gap. level_with (put blocks) None gap)
-    (ap (λ (level : Level). finished level) e ∙ finished_level table (listed before))
-    (ap₂ (λ a b. a || b) (ap (λ (level : Level). level.gap) e ∙ level_gap table (listed before)) (f ∙ sym (listed_blank before))
+    (ap (λ (level : Level). finished level) e ∙ finished_level rules (listed before))
+    (ap₂ (λ a b. a || b) (ap (λ (level : Level). level.gap) e ∙ level_gap rules (listed before)) (f ∙ sym (listed_blank before))
     ∙ or_swap (has_gap (listed before)) (ends_blank (listed before)))
 
-closed_leaf : (table : Table) (path : Path) (before : Tree) (leaf : LeafLines) → closed table path ≡ level_of table (listed before)
+closed_leaf : (rules : Rules) (path : Path) (before : Tree) (leaf : LeafLines) → closed rules path ≡ level_of rules (listed before)
     → path_blank path ≡ ends_blank before →
-    closed table (leaf_path table path leaf) ≡ level_of table (listed (before ▹ leaf))
+    closed rules (leaf_path rules path leaf) ≡ level_of rules (listed (before ▹ leaf))
 unfolding closed leaf_closed leaf_path open_of with_open with_leaf listed finished_list
-closed_leaf table path before BlankLine e f = e
-closed_leaf table path before (FencedLines true fence info lines) e f = block_behind table path before
-    (with_leaf table (FencedLines true fence info lines)) e f
-closed_leaf table path before (FencedLines false fence info lines) e f = block_behind table path before
-    (with_leaf table (FencedLines false fence info lines)) e f
-closed_leaf table path before (HtmlLines true kind lines) e f = block_behind table path before
-    (with_leaf table (HtmlLines true kind lines)) e f
-closed_leaf table path before (HtmlLines false kind lines) e f = block_behind table path before
-    (with_leaf table (HtmlLines false kind lines)) e f
-closed_leaf table path before leaf e f = block_behind table path before (with_leaf table leaf) e f
+closed_leaf rules path before BlankLine e f = e
+closed_leaf rules path before (FencedLines true fence info lines) e f = block_behind rules path before
+    (with_leaf rules (FencedLines true fence info lines)) e f
+closed_leaf rules path before (FencedLines false fence info lines) e f = block_behind rules path before
+    (with_leaf rules (FencedLines false fence info lines)) e f
+closed_leaf rules path before (HtmlLines true kind lines) e f = block_behind rules path before
+    (with_leaf rules (HtmlLines true kind lines)) e f
+closed_leaf rules path before (HtmlLines false kind lines) e f = block_behind rules path before
+    (with_leaf rules (HtmlLines false kind lines)) e f
+closed_leaf rules path before leaf e f = block_behind rules path before (with_leaf rules leaf) e f
 
-closed_path : (table : Table) (tree : Tree) → IsMade tree → closed table (path_of table tree) ≡ level_of table (listed tree)
+closed_path : (rules : Rules) (tree : Tree) → IsMade tree → closed rules (path_of rules tree) ≡ level_of rules (listed tree)
 unfolding closed leaf_closed container_closed path_of listed finished_list container_of
-closed_path table none h = refl
-closed_path table (before ▹ leaf) h = closed_leaf table (path_of table before) before leaf (closed_path table before h.0)
-    (path_of_blank table before h.0)
-closed_path table (node before QuoteLines inside) h =
-    ap (λ (level : Level). level_with (node (finished (closed table (path_of table before))) BlockQuote (finished level)) None
-    ((closed table (path_of table before)).gap || path_blank (path_of table before)))
-    (closed_path table inside h.1)
-    ∙ (ap (λ blocks. level_with (node (finished (closed table (path_of table before))) BlockQuote blocks) None
-    ((closed table (path_of table before)).gap || path_blank (path_of table before)))
-    (finished_level table (listed inside))
-    ∙ block_behind table (path_of table before) before (λ blocks. node blocks BlockQuote (blocks_of table (listed inside)))
-    (closed_path table before h.0) (path_of_blank table before h.0))
-closed_path table (node before (ItemLines kind start columns) inside) h =
-    ap₂ (λ level within. item_done (item_begun_at level (path_blank (path_of table before)) kind start) within)
-    (closed_path table before h.0) (closed_path table inside h.1)
-    ∙ (ap (λ blank. item_done (item_begun_at (level_of table (listed before)) blank kind start) (level_of table (listed inside)))
-    (path_of_blank table before h.0 ∙ sym (listed_blank before))
-    ∙ item_level table kind start columns (listed inside) (listed before))
-closed_path table (node before (ListLines kind start tight) inside) h = absurd h
+closed_path rules none h = refl
+closed_path rules (before ▹ leaf) h = closed_leaf rules (path_of rules before) before leaf (closed_path rules before h.0)
+    (path_of_blank rules before h.0)
+closed_path rules (node before QuoteLines inside) h =
+    ap (λ (level : Level). level_with (node (finished (closed rules (path_of rules before))) BlockQuote (finished level)) None
+    ((closed rules (path_of rules before)).gap || path_blank (path_of rules before)))
+    (closed_path rules inside h.1)
+    ∙ (ap (λ blocks. level_with (node (finished (closed rules (path_of rules before))) BlockQuote blocks) None
+    ((closed rules (path_of rules before)).gap || path_blank (path_of rules before)))
+    (finished_level rules (listed inside))
+    ∙ block_behind rules (path_of rules before) before (λ blocks. node blocks BlockQuote (blocks_of rules (listed inside)))
+    (closed_path rules before h.0) (path_of_blank rules before h.0))
+closed_path rules (node before (ItemLines kind start columns) inside) h =
+    ap₂ (λ level within. item_done (item_begun_at level (path_blank (path_of rules before)) kind start) within)
+    (closed_path rules before h.0) (closed_path rules inside h.1)
+    ∙ (ap (λ blank. item_done (item_begun_at (level_of rules (listed before)) blank kind start) (level_of rules (listed inside)))
+    (path_of_blank rules before h.0 ∙ sym (listed_blank before))
+    ∙ item_level rules kind start columns (listed inside) (listed before))
+closed_path rules (node before (ListLines kind start tight) inside) h = absurd h
 
 -- ---- the definitions
 
-abbrev IfListReferences : Table → Tree → Option LastList → Type 0
-IfListReferences table tree None = ⊤
-IfListReferences table tree (Some l) = references_of table tree ≡ references_of table l.before ++ references_of table l.items
+abbrev IfListReferences : Rules → Tree → Option LastList → Type 0
+IfListReferences rules tree None = ⊤
+IfListReferences rules tree (Some l) = references_of rules tree ≡ references_of rules l.before ++ references_of rules l.items
 
-blank_references : (table : Table) (before : Tree) (found : Option LastList) → IfListReferences table before found
-    → IfListReferences table (before ▹ BlankLine) found
+blank_references : (rules : Rules) (before : Tree) (found : Option LastList) → IfListReferences rules before found
+    → IfListReferences rules (before ▹ BlankLine) found
 unfolding references_of leaf_references
-blank_references table before None h = tt
-blank_references table before (Some l) h = append-nil (references_of table before) ∙ h
+blank_references rules before None h = tt
+blank_references rules before (Some l) h = append-nil (references_of rules before) ∙ h
 
-list_references_at : (table : Table) (other : ListKind) (before items : Tree) (start : ℕ) (tight : Bool) (b : Bool) →
-    IfListReferences table (node before (ListLines other start tight) items)
+list_references_at : (rules : Rules) (other : ListKind) (before items : Tree) (start : ℕ) (tight : Bool) (b : Bool) →
+    IfListReferences rules (node before (ListLines other start tight) items)
     (elim b [ true ↦ Some (record { before = before; start = start; tight = tight; items = items }) | false ↦ None ])
 unfolding references_of
-list_references_at table other before items start tight true = refl
-list_references_at table other before items start tight false = tt
+list_references_at rules other before items start tight true = refl
+list_references_at rules other before items start tight false = tt
 
-last_list_references : (table : Table) (kind : ListKind) (tree : Tree) → IfListReferences table tree (last_list kind tree)
+last_list_references : (rules : Rules) (kind : ListKind) (tree : Tree) → IfListReferences rules tree (last_list kind tree)
 unfolding last_list
-last_list_references table kind none = tt
-last_list_references table kind (before ▹ BlankLine) = blank_references table before (last_list kind before)
-    (last_list_references table kind before)
-last_list_references table kind (before ▹ leaf) = tt
-last_list_references table kind (node before (ListLines other start tight) items) = list_references_at table other before items start tight
+last_list_references rules kind none = tt
+last_list_references rules kind (before ▹ BlankLine) = blank_references rules before (last_list kind before)
+    (last_list_references rules kind before)
+last_list_references rules kind (before ▹ leaf) = tt
+last_list_references rules kind (node before (ListLines other start tight) items) = list_references_at rules other before items start tight
     (is_same_kind other kind)
-last_list_references table kind (node before container inside) = tt
+last_list_references rules kind (node before container inside) = tt
 
-item_references_at : (table : Table) (kind : ListKind) (start columns : ℕ) (inside before : Tree) (found : Option LastList)
-    → IfListReferences table before found →
-    references_of table (elim found [
+item_references_at : (rules : Rules) (kind : ListKind) (start columns : ℕ) (inside before : Tree) (found : Option LastList)
+    → IfListReferences rules before found →
+    references_of rules (elim found [
       | Some l ↦ node l.before (ListLines kind l.start (l.tight && not (ends_blank before || has_gap inside)))
           (node l.items (ItemLines kind start columns) inside)
       | None ↦ node before (ListLines kind start (not (has_gap inside))) (node none (ItemLines kind start columns) inside)
-    ]) ≡ references_of table before ++ references_of table inside
+    ]) ≡ references_of rules before ++ references_of rules inside
 unfolding references_of
-item_references_at table kind start columns inside before None h = refl
-item_references_at table kind start columns inside before (Some l) h =
-    sym (append_assoc (references_of table l.before) (references_of table l.items) (references_of table inside))
-    ∙ ap (λ refs. refs ++ references_of table inside) (sym h)
+item_references_at rules kind start columns inside before None h = refl
+item_references_at rules kind start columns inside before (Some l) h =
+    sym (append_assoc (references_of rules l.before) (references_of rules l.items) (references_of rules inside))
+    ∙ ap (λ refs. refs ++ references_of rules inside) (sym h)
 
-item_references : (table : Table) (kind : ListKind) (start columns : ℕ) (inside before : Tree) →
-    references_of table (with_item kind start columns inside before) ≡ references_of table before ++ references_of table inside
+item_references : (rules : Rules) (kind : ListKind) (start columns : ℕ) (inside before : Tree) →
+    references_of rules (with_item kind start columns inside before) ≡ references_of rules before ++ references_of rules inside
 unfolding with_item
-item_references table kind start columns inside before = item_references_at table kind start columns inside before (last_list kind before)
-    (last_list_references table kind before)
+item_references rules kind start columns inside before = item_references_at rules kind start columns inside before (last_list kind before)
+    (last_list_references rules kind before)
 
-listed_references : (table : Table) (tree : Tree) → references_of table (listed tree) ≡ references_of table tree
+listed_references : (rules : Rules) (tree : Tree) → references_of rules (listed tree) ≡ references_of rules tree
 unfolding listed references_of
-listed_references table none = refl
-listed_references table (before ▹ leaf) = ap (λ refs. refs ++ leaf_references table leaf) (listed_references table before)
-listed_references table (node before (ItemLines kind start columns) inside) =
-    item_references table kind start columns (listed inside) (listed before)
-    ∙ ap₂ (λ front more. front ++ more) (listed_references table before) (listed_references table inside)
-listed_references table (node before container inside) = ap₂ (λ front more. front ++ more) (listed_references table before)
-    (listed_references table inside)
+listed_references rules none = refl
+listed_references rules (before ▹ leaf) = ap (λ refs. refs ++ leaf_references rules leaf) (listed_references rules before)
+listed_references rules (node before (ItemLines kind start columns) inside) =
+    item_references rules kind start columns (listed inside) (listed before)
+    ∙ ap₂ (λ front more. front ++ more) (listed_references rules before) (listed_references rules inside)
+listed_references rules (node before container inside) = ap₂ (λ front more. front ++ more) (listed_references rules before)
+    (listed_references rules inside)
 
 -- ---- the document
 
-pub path_gives_document : (table : Table) (tree : Tree) → IsMade tree
-    → path_document table (moved_of table tree) ≡ tree_document table (listed tree)
+pub path_gives_document : (rules : Rules) (tree : Tree) → IsMade tree
+    → path_document rules (moved_of rules tree) ≡ tree_document rules (listed tree)
 unfolding path_document tree_document
-path_gives_document table tree h =
+path_gives_document rules tree h =
     ap₂ (λ blocks refs. document blocks refs)
-    (ap (λ (level : Level). finished level) (closed_path table tree h) ∙ finished_level table (listed tree)) (all_references table tree
-    ∙ sym (listed_references table tree))
+    (ap (tasks_read rules) (ap (λ (level : Level). finished level) (closed_path rules tree h) ∙ finished_level rules (listed tree)))
+    (all_references rules tree
+    ∙ sym (listed_references rules tree))
   where
     document : Blocks → List Definition → Document
     document blocks refs = record { blocks = blocks; refs = refs }

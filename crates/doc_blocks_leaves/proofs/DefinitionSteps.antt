@@ -5,7 +5,7 @@ use Rattle.std.specs.Str.{IsUtf8}
 use Rattle.std.proofs.lemmas.Bool.{ne_eqb}
 use Rattle.doc_rules.specs.Characters.{Text, is_space_or_tab, strip_end}
 use Rattle.doc_rules.specs.Parsers.{is, maybe, passing, before, inside, is_nothing}
-use Rattle.doc_rules.specs.Entities.{Table}
+use Rattle.doc_rules.specs.Rules.{Rules}
 use Rattle.doc_rules.specs.Forests.{◌▹◌}
 use Rattle.doc_rules.specs.Blocks.{Leaf, Blocks, with_text}
 use Rattle.doc_rules.specs.Labels.{label, label_text, is_label}
@@ -46,13 +46,13 @@ no_source_at_end : definition_source [] ≡ None
 unfolding definition_source label
 no_source_at_end = refl
 
-pub none_at_other : (table : Table) (text rest : Text) (c : ℕ) → text ≡ c ∷ rest → (c == 32) ≡ false → (c == 91) ≡ false
-    → definitions_of table text ≡ ([], text)
-none_at_other table text rest c e s b = ap (definitions_of table) e
-    ∙ (none_more table (c ∷ rest) (sym (no_source c rest s b)) ∙ ap (λ (t : Text). ([], t)) (sym e))
+pub none_at_other : (rules : Rules) (text rest : Text) (c : ℕ) → text ≡ c ∷ rest → (c == 32) ≡ false → (c == 91) ≡ false
+    → definitions_of rules text ≡ ([], text)
+none_at_other rules text rest c e s b = ap (definitions_of rules) e
+    ∙ (none_more rules (c ∷ rest) (sym (no_source c rest s b)) ∙ ap (λ (t : Text). ([], t)) (sym e))
 
-pub none_at_end : (table : Table) (text : Text) → text ≡ [] → definitions_of table text ≡ ([], text)
-none_at_end table text e = ap (definitions_of table) e ∙ (none_more table [] (sym no_source_at_end) ∙ ap (λ (t : Text). ([], t)) (sym e))
+pub none_at_end : (rules : Rules) (text : Text) → text ≡ [] → definitions_of rules text ≡ ([], text)
+none_at_end rules text e = ap (definitions_of rules) e ∙ (none_more rules [] (sym no_source_at_end) ∙ ap (λ (t : Text). ([], t)) (sym e))
 
 -- ---- what they leave
 

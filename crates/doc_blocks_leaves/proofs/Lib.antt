@@ -1,6 +1,7 @@
 pub mod DefinitionSteps
 pub mod GatheredSteps
 pub mod LeafSteps
+pub mod TableSteps
 pub mod LineSteps
 pub mod StartSteps
 pub mod Tests

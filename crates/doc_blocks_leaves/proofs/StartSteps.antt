@@ -6,13 +6,14 @@ use Rattle.std.proofs.lemmas.Bool.Decides.{nat_tests}
 use Rattle.std.specs.List.{list_all}
 use Rattle.doc_rules.specs.Characters.{Text, is_space_or_tab, strip, strip_end}
 use Rattle.doc_rules.specs.Columns.{Line, text_of, indent, after_indent}
-use Rattle.doc_rules.specs.Entities.{Table}
+use Rattle.doc_rules.specs.Rules.{Rules}
 use Rattle.doc_rules.specs.Parsers.{is, many, some, begins}
 use Rattle.doc_rules.specs.LeafStarts.{marker_text, is_end, heading_text, atx_heading, is_all_of, underline_level, is_break_of}
 use Rattle.doc_rules.specs.LeafStarts.{is_thematic_break, Fence, fence_of, opening_fence}
 use Rattle.doc_rules.specs.HtmlStarts.{HtmlKind, html_start, may_interrupt_paragraph, ends_html}
 use Rattle.doc_rules.specs.Definitions.{definitions_of}
-use Rattle.doc_rules.specs.Trees.{AtxLine, FencedLines, HtmlLines, Situation, NoParagraph, InParagraph, LazyParagraph, has_no_paragraph}
+use Rattle.doc_rules.specs.Trees.{AtxLine, FencedLines, HtmlLines, Situation, NoParagraph, InParagraph, LazyParagraph, InTable}
+use Rattle.doc_rules.specs.Trees.{has_no_paragraph}
 use Rattle.doc_rules.specs.Trees.{LeafStart, NewLeaf, Underline, text_begins, atx_begins, fence_begins, html_begins, setext_begins}
 use Rattle.doc_rules.specs.Trees.{break_begins}
 use Rattle.doc_blocks_leaves.specs.Starts.{or_else}
@@ -105,17 +106,18 @@ no_level c rest e f =
     by_false (is_all_of 61 (strip_end is_space_or_tab (c ∷ rest))) _ (Some 1) (not_all_stripped 61 c rest e)
     ∙ by_false (is_all_of 45 (strip_end is_space_or_tab (c ∷ rest))) None (Some 2) (not_all_stripped 45 c rest f)
 
-pub no_underline : (table : Table) (situation : Situation) (c : ℕ) (rest : Text) → (c == 61) ≡ false → (c == 45) ≡ false
-    → setext_begins table situation (c ∷ rest) ≡ None
+pub no_underline : (rules : Rules) (situation : Situation) (c : ℕ) (rest : Text) → (c == 61) ≡ false → (c == 45) ≡ false
+    → setext_begins rules situation (c ∷ rest) ≡ None
 unfolding setext_begins
-no_underline table NoParagraph c rest e f = refl
-no_underline table (InParagraph above) c rest e f =
+no_underline rules NoParagraph c rest e f = refl
+no_underline rules (InParagraph above) c rest e f =
     ap (λ (o : Option ℕ). elim o [
       | None ↦ None
-      | Some level ↦ elim (length (definitions_of table above).1 == 0)
+      | Some level ↦ elim (length (definitions_of rules above).1 == 0)
           [ true ↦ None | false ↦ Some (Underline level) ]
     ]) (no_level c rest e f)
-no_underline table LazyParagraph c rest e f = refl
+no_underline rules LazyParagraph c rest e f = refl
+no_underline rules InTable c rest e f = refl
 
 not_break_of : (k c : ℕ) (rest : Text) → (c == k) ≡ false → is_space_or_tab c ≡ false → is_break_of k (c ∷ rest) ≡ false
 unfolding is_break_of
@@ -144,11 +146,11 @@ chain heading fence html underline break =
       ]
     ]
 
-in_order : (table : Table) (situation : Situation) (line : Line) (text : Text) →
-    text_begins table situation line text ≡ chain (atx_begins text) (fence_begins line text) (html_begins situation line text)
-    (setext_begins table situation text) (break_begins text)
+in_order : (rules : Rules) (situation : Situation) (line : Line) (text : Text) →
+    text_begins rules situation line text ≡ chain (atx_begins text) (fence_begins line text) (html_begins situation line text)
+    (setext_begins rules situation text) (break_begins text)
 unfolding text_begins
-in_order table situation line text = refl
+in_order rules situation line text = refl
 
 of_each : (heading fence html underline break a b c d e : Option LeafStart) → heading ≡ a → fence ≡ b → html ≡ c → underline ≡ d
     → break ≡ e →
@@ -176,17 +178,17 @@ fourth_alone (Some start) = refl
 
 -- ---- by the first character
 
-pub at_number_sign : (table : Table) (situation : Situation) (line : Line) (rest : Text)
-    → atx_begins (35 ∷ rest) ≡ text_begins table situation line (35 ∷ rest)
-at_number_sign table situation line rest =
-    sym (in_order table situation line (35 ∷ rest)
+pub at_number_sign : (rules : Rules) (situation : Situation) (line : Line) (rest : Text)
+    → atx_begins (35 ∷ rest) ≡ text_begins rules situation line (35 ∷ rest)
+at_number_sign rules situation line rest =
+    sym (in_order rules situation line (35 ∷ rest)
     ∙ (of_each (atx_begins (35 ∷ rest)) _ _ _ _ (atx_begins (35 ∷ rest)) None None None None refl (no_fence line 35 rest refl refl)
-    (no_html situation line 35 rest refl) (no_underline table situation 35 rest refl refl) (no_break 35 rest refl refl refl refl)
+    (no_html situation line 35 rest refl) (no_underline rules situation 35 rest refl refl) (no_break 35 rest refl refl refl refl)
     ∙ first_alone (atx_begins (35 ∷ rest))))
 
-pub at_fence_sign : (table : Table) (situation : Situation) (line : Line) (c : ℕ) (rest : Text) → (c ≡ 96) ⊎ (c ≡ 126)
-    → fence_begins line (c ∷ rest) ≡ text_begins table situation line (c ∷ rest)
-at_fence_sign table situation line c rest h = elim h [
+pub at_fence_sign : (rules : Rules) (situation : Situation) (line : Line) (c : ℕ) (rest : Text) → (c ≡ 96) ⊎ (c ≡ 126)
+    → fence_begins line (c ∷ rest) ≡ text_begins rules situation line (c ∷ rest)
+at_fence_sign rules situation line c rest h = elim h [
   | inl e ↦ rw e (at 96 refl refl refl refl refl refl refl refl)
   | inr e ↦ rw e
       (at 126 refl refl refl refl refl refl refl refl)
@@ -194,59 +196,59 @@ at_fence_sign table situation line c rest h = elim h [
   where
     at : (d : ℕ) → (d == 35) ≡ false → (d == 60) ≡ false → (d == 61) ≡ false → (d == 45) ≡ false → (d == 95) ≡ false → (d == 42) ≡ false
         → is_space_or_tab d ≡ false → true ≡ true →
-        fence_begins line (d ∷ rest) ≡ text_begins table situation line (d ∷ rest)
+        fence_begins line (d ∷ rest) ≡ text_begins rules situation line (d ∷ rest)
     at d a b e f g h s t =
-        sym (in_order table situation line (d ∷ rest)
+        sym (in_order rules situation line (d ∷ rest)
         ∙ (of_each _ (fence_begins line (d ∷ rest)) _ _ _ None (fence_begins line (d ∷ rest)) None None None (no_heading d rest a) refl
-        (no_html situation line d rest b) (no_underline table situation d rest e f) (no_break d rest f g h s)
+        (no_html situation line d rest b) (no_underline rules situation d rest e f) (no_break d rest f g h s)
         ∙ second_alone (fence_begins line (d ∷ rest))))
 
-pub at_left_angle : (table : Table) (situation : Situation) (line : Line) (rest : Text)
-    → html_begins situation line (60 ∷ rest) ≡ text_begins table situation line (60 ∷ rest)
-at_left_angle table situation line rest =
-    sym (in_order table situation line (60 ∷ rest)
+pub at_left_angle : (rules : Rules) (situation : Situation) (line : Line) (rest : Text)
+    → html_begins situation line (60 ∷ rest) ≡ text_begins rules situation line (60 ∷ rest)
+at_left_angle rules situation line rest =
+    sym (in_order rules situation line (60 ∷ rest)
     ∙ (of_each _ _ (html_begins situation line (60 ∷ rest)) _ _ None None (html_begins situation line (60 ∷ rest)) None None
-    (no_heading 60 rest refl) (no_fence line 60 rest refl refl) refl (no_underline table situation 60 rest refl refl)
+    (no_heading 60 rest refl) (no_fence line 60 rest refl refl) refl (no_underline rules situation 60 rest refl refl)
     (no_break 60 rest refl refl refl refl)
     ∙ third_alone (html_begins situation line (60 ∷ rest))))
 
-pub at_equals_sign : (table : Table) (situation : Situation) (line : Line) (rest : Text)
-    → setext_begins table situation (61 ∷ rest) ≡ text_begins table situation line (61 ∷ rest)
-at_equals_sign table situation line rest =
-    sym (in_order table situation line (61 ∷ rest)
-    ∙ (of_each _ _ _ (setext_begins table situation (61 ∷ rest)) _ None None None (setext_begins table situation (61 ∷ rest)) None
+pub at_equals_sign : (rules : Rules) (situation : Situation) (line : Line) (rest : Text)
+    → setext_begins rules situation (61 ∷ rest) ≡ text_begins rules situation line (61 ∷ rest)
+at_equals_sign rules situation line rest =
+    sym (in_order rules situation line (61 ∷ rest)
+    ∙ (of_each _ _ _ (setext_begins rules situation (61 ∷ rest)) _ None None None (setext_begins rules situation (61 ∷ rest)) None
     (no_heading 61 rest refl) (no_fence line 61 rest refl refl) (no_html situation line 61 rest refl) refl
     (no_break 61 rest refl refl refl refl)
-    ∙ fourth_alone (setext_begins table situation (61 ∷ rest))))
+    ∙ fourth_alone (setext_begins rules situation (61 ∷ rest))))
 
-pub at_hyphen : (table : Table) (situation : Situation) (line : Line) (rest : Text)
-    → or_else (setext_begins table situation (45 ∷ rest)) (break_begins (45 ∷ rest)) ≡ text_begins table situation line (45 ∷ rest)
-at_hyphen table situation line rest =
-    sym (in_order table situation line (45 ∷ rest)
-    ∙ of_each _ _ _ (setext_begins table situation (45 ∷ rest)) (break_begins (45 ∷ rest)) None None None
-    (setext_begins table situation (45 ∷ rest)) (break_begins (45 ∷ rest)) (no_heading 45 rest refl) (no_fence line 45 rest refl refl)
+pub at_hyphen : (rules : Rules) (situation : Situation) (line : Line) (rest : Text)
+    → or_else (setext_begins rules situation (45 ∷ rest)) (break_begins (45 ∷ rest)) ≡ text_begins rules situation line (45 ∷ rest)
+at_hyphen rules situation line rest =
+    sym (in_order rules situation line (45 ∷ rest)
+    ∙ of_each _ _ _ (setext_begins rules situation (45 ∷ rest)) (break_begins (45 ∷ rest)) None None None
+    (setext_begins rules situation (45 ∷ rest)) (break_begins (45 ∷ rest)) (no_heading 45 rest refl) (no_fence line 45 rest refl refl)
     (no_html situation line 45 rest refl) refl refl)
 
 -- of the others
-break_alone : (table : Table) (situation : Situation) (line : Line) (c : ℕ) (rest : Text) →
+break_alone : (rules : Rules) (situation : Situation) (line : Line) (c : ℕ) (rest : Text) →
     (c == 35) ≡ false → (c == 96) ≡ false → (c == 126) ≡ false → (c == 60) ≡ false → (c == 61) ≡ false → (c == 45) ≡ false
-    → break_begins (c ∷ rest) ≡ text_begins table situation line (c ∷ rest)
-break_alone table situation line c rest a b d e f g =
-    sym (in_order table situation line (c ∷ rest)
+    → break_begins (c ∷ rest) ≡ text_begins rules situation line (c ∷ rest)
+break_alone rules situation line c rest a b d e f g =
+    sym (in_order rules situation line (c ∷ rest)
     ∙ of_each _ _ _ _ (break_begins (c ∷ rest)) None None None None (break_begins (c ∷ rest)) (no_heading c rest a)
-    (no_fence line c rest b d) (no_html situation line c rest e) (no_underline table situation c rest f g) refl)
+    (no_fence line c rest b d) (no_html situation line c rest e) (no_underline rules situation c rest f g) refl)
 
-pub at_break_sign : (table : Table) (situation : Situation) (line : Line) (c : ℕ) (rest : Text)
+pub at_break_sign : (rules : Rules) (situation : Situation) (line : Line) (c : ℕ) (rest : Text)
     → (c ≡ 9) ⊎ ((c ≡ 32) ⊎ ((c ≡ 42) ⊎ (c ≡ 95))) →
-    break_begins (c ∷ rest) ≡ text_begins table situation line (c ∷ rest)
-at_break_sign table situation line c rest h =
+    break_begins (c ∷ rest) ≡ text_begins rules situation line (c ∷ rest)
+at_break_sign rules situation line c rest h =
     elim h [
-      | inl e ↦ rw e (break_alone table situation line 9 rest refl refl refl refl refl refl)
+      | inl e ↦ rw e (break_alone rules situation line 9 rest refl refl refl refl refl refl)
       | inr more ↦ elim more [
-        | inl e ↦ rw e (break_alone table situation line 32 rest refl refl refl refl refl refl)
+        | inl e ↦ rw e (break_alone rules situation line 32 rest refl refl refl refl refl refl)
         | inr again ↦ elim again [
-          | inl e ↦ rw e (break_alone table situation line 42 rest refl refl refl refl refl refl)
-          | inr e ↦ rw e (break_alone table situation line 95 rest refl refl refl refl refl refl)
+          | inl e ↦ rw e (break_alone rules situation line 42 rest refl refl refl refl refl refl)
+          | inr e ↦ rw e (break_alone rules situation line 95 rest refl refl refl refl refl refl)
         ]
       ]
     ]
@@ -255,18 +257,19 @@ at_break_sign table situation line c rest h =
 pub neither : (c : ℕ) → (c == 32) ≡ false → (c == 9) ≡ false → is_space_or_tab c ≡ false
 neither c s t = ap (λ b. b || (c == 9)) s ∙ t
 
-pub at_other : (table : Table) (situation : Situation) (line : Line) (c : ℕ) (rest : Text) →
+pub at_other : (rules : Rules) (situation : Situation) (line : Line) (c : ℕ) (rest : Text) →
     (c == 35) ≡ false → (c == 96) ≡ false → (c == 126) ≡ false → (c == 60) ≡ false → (c == 61) ≡ false → (c == 45) ≡ false
     → (c == 42) ≡ false → (c == 95) ≡ false → is_space_or_tab c ≡ false →
-    None ≡ text_begins table situation line (c ∷ rest)
-at_other table situation line c rest a b d e f g h i s = sym (no_break c rest g i h s) ∙ break_alone table situation line c rest a b d e f g
+    None ≡ text_begins rules situation line (c ∷ rest)
+at_other rules situation line c rest a b d e f g h i s = sym (no_break c rest g i h s) ∙ break_alone rules situation line c rest a b d e f g
 
-pub at_end : (table : Table) (situation : Situation) (line : Line) → None ≡ text_begins table situation line []
+pub at_end : (rules : Rules) (situation : Situation) (line : Line) → None ≡ text_begins rules situation line []
 unfolding text_begins atx_begins atx_heading fence_begins opening_fence fence_of html_begins html_start setext_begins underline_level
     is_all_of strip_end break_begins is_thematic_break is_break_of
-at_end table NoParagraph line = refl
-at_end table (InParagraph above) line = refl
-at_end table LazyParagraph line = refl
+at_end rules NoParagraph line = refl
+at_end rules (InParagraph above) line = refl
+at_end rules LazyParagraph line = refl
+at_end rules InTable line = refl
 
 -- ---- the indentation
 

@@ -1,6 +1,6 @@
 -- Closing the open blocks of a path, the innermost first.
 use Rattle.std.specs.Prelude.{Bool, false, ◌&&◌, not, List, Option, Some, None}
-use Rattle.doc_rules.specs.Entities.{Table}
+use Rattle.doc_rules.specs.Rules.{Rules}
 use Rattle.doc_rules.specs.Definitions.{Definition}
 use Rattle.doc_rules.specs.Forests.{node}
 use Rattle.doc_rules.specs.Blocks.{BlockQuote, ListItem}
@@ -8,9 +8,9 @@ use Rattle.doc_blocks_leaves.specs.Leaves.{OpenLeaf, NoLeaf, with_open, open_ref
 use Rattle.doc_blocks_leaves.specs.Paths.{OpenList, Level, OpenContainer, OpenQuote, OpenItem, Path, Here, Inside, finished, with_blocks}
 
 -- a level whose open leaf closes; with none its list stays open
-unfoldable pub leaf_closed : Table → Level → OpenLeaf → Level
-leaf_closed table level NoLeaf = level
-leaf_closed table level leaf = with_blocks level (with_open table leaf (finished level))
+unfoldable pub leaf_closed : Rules → Level → OpenLeaf → Level
+leaf_closed rules level NoLeaf = level
+leaf_closed rules level leaf = with_blocks level (with_open rules leaf (finished level))
 
 -- the open list with one more item, of these blocks: a blank line between two of them makes it loose (5.3)
 abbrev pub item_added : OpenList → Level → OpenList
@@ -27,9 +27,9 @@ container_closed level OpenQuote inside = with_blocks level (node (finished leve
 container_closed level (OpenItem columns is_empty) inside = item_closed level level.list inside
 
 -- the outermost level of a path when all that is open in it has closed, but for its list
-unfoldable pub closed : Table → Path → Level
-closed table (Here level leaf blank) = leaf_closed table level leaf
-closed table (Inside level container path) = container_closed level container (closed table path)
+unfoldable pub closed : Rules → Path → Level
+closed rules (Here level leaf blank) = leaf_closed rules level leaf
+closed rules (Inside level container path) = container_closed level container (closed rules path)
 
 -- whether a blank line stands behind the last block of the outermost level of a path, which is no part of it: one that ends an
 -- item does, one that ends a quote is the quote's
@@ -39,6 +39,6 @@ path_blank (Inside level OpenQuote path) = false
 path_blank (Inside level (OpenItem columns is_empty) path) = path_blank path
 
 -- the definitions that leave when a path closes
-unfoldable pub path_references : Table → Path → List Definition
-path_references table (Here level leaf blank) = open_references table leaf
-path_references table (Inside level container path) = path_references table path
+unfoldable pub path_references : Rules → Path → List Definition
+path_references rules (Here level leaf blank) = open_references rules leaf
+path_references rules (Inside level container path) = path_references rules path

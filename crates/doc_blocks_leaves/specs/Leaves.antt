@@ -3,14 +3,16 @@
 use Rattle.std.specs.Prelude.{nat_le, Bool, true, false, ◌&&◌, ◌||◌, List, [], ◌∷◌, ◌++◌}
 use Rattle.doc_rules.specs.Characters.{Text}
 use Rattle.doc_rules.specs.Columns.{Line, text_of, indent, skip, is_blank_line}
-use Rattle.doc_rules.specs.Entities.{Table}
+use Rattle.doc_rules.specs.Rules.{Rules}
 use Rattle.doc_rules.specs.Escapes.{unescape}
 use Rattle.doc_rules.specs.Definitions.{Definition, definitions_of}
 use Rattle.doc_rules.specs.LeafStarts.{Fence, closes_fence}
 use Rattle.doc_rules.specs.HtmlStarts.{HtmlKind, ends_before_blank, ends_html}
 use Rattle.doc_rules.specs.Forests.{◌▹◌}
 use Rattle.doc_rules.specs.Trees.{LeafLines, ParagraphLines, IndentedLines, FencedLines, HtmlLines}
-use Rattle.doc_rules.specs.Blocks.{Paragraph, IndentedCode, FencedCode, HtmlBlock, Blocks, ended, joined, without_last_blanks, with_text}
+use Rattle.doc_rules.specs.Blocks.{IndentedCode, FencedCode, HtmlBlock, Blocks, ended, joined, without_last_blanks, with_text, table_of}
+use Rattle.doc_rules.specs.Blocks.{with_table}
+use Rattle.doc_rules.specs.Blocks.{Paragraph, paragraph_of}
 
 -- Of indented code and HTML blocks the text of all lines, and of those before the last blank ones. Definitions still stand at
 -- a paragraph's front; an info string's escapes and references are read.
@@ -22,12 +24,12 @@ pub data OpenLeaf : Type 0 where
   OpenHtml : HtmlKind → (all kept : Text) → OpenLeaf
 
 -- the open leaf that a leaf of the tree of lines is: none where it takes no more lines
-unfoldable pub open_of : Table → LeafLines → OpenLeaf
-open_of table (ParagraphLines text) = OpenParagraph text
-open_of table (IndentedLines lines) = OpenCode (ended lines) (ended (without_last_blanks lines))
-open_of table (FencedLines true fence info lines) = OpenFence fence (unescape table info) (ended lines)
-open_of table (HtmlLines true kind lines) = OpenHtml kind (joined lines) (joined (without_last_blanks lines))
-open_of table leaf = NoLeaf
+unfoldable pub open_of : Rules → LeafLines → OpenLeaf
+open_of rules (ParagraphLines text) = OpenParagraph text
+open_of rules (IndentedLines lines) = OpenCode (ended lines) (ended (without_last_blanks lines))
+open_of rules (FencedLines true fence info lines) = OpenFence fence (unescape rules info) (ended lines)
+open_of rules (HtmlLines true kind lines) = OpenHtml kind (joined lines) (joined (without_last_blanks lines))
+open_of rules leaf = NoLeaf
 
 -- ---- a line
 
@@ -80,14 +82,15 @@ taken line (OpenHtml kind all kept) =
 -- ---- the end
 
 -- these blocks and what an open leaf becomes behind them
-unfoldable pub with_open : Table → OpenLeaf → Blocks → Blocks
-with_open table NoLeaf before = before
-with_open table (OpenParagraph text) before = with_text Paragraph (definitions_of table text).1 before
-with_open table (OpenCode all kept) before = before ▹ IndentedCode kept
-with_open table (OpenFence fence info text) before = before ▹ FencedCode info text
-with_open table (OpenHtml kind all kept) before = before ▹ HtmlBlock kept
+unfoldable pub with_open : Rules → OpenLeaf → Blocks → Blocks
+with_open rules NoLeaf before = before
+with_open rules (OpenParagraph text) before =
+    with_table (table_of rules text) (with_text Paragraph (definitions_of rules (paragraph_of rules text)).1 before)
+with_open rules (OpenCode all kept) before = before ▹ IndentedCode kept
+with_open rules (OpenFence fence info text) before = before ▹ FencedCode info text
+with_open rules (OpenHtml kind all kept) before = before ▹ HtmlBlock kept
 
 -- the definitions that leave an open leaf when it closes
-unfoldable pub open_references : Table → OpenLeaf → List Definition
-open_references table (OpenParagraph text) = (definitions_of table text).0
-open_references table leaf = []
+unfoldable pub open_references : Rules → OpenLeaf → List Definition
+open_references rules (OpenParagraph text) = (definitions_of rules (paragraph_of rules text)).0
+open_references rules leaf = []

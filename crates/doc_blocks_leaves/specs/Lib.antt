@@ -1,6 +1,7 @@
 pub mod OpenLeaves
 pub mod Starts
 pub mod Views
+pub mod TableTexts
 pub mod Leaves
 pub mod Paths
 pub mod Closing

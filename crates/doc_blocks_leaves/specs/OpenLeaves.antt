@@ -1,13 +1,14 @@
 -- The open leaf of the code, seen as that of one pass over the lines, and what is asked of it.
-use Rattle.std.specs.Prelude.{ℕ, Bool, true, false, List, [], ◌∷◌, ◌++◌, chars, Option, Some, None}
+use Rattle.std.specs.Prelude.{ℕ, Bool, true, false, List, [], ◌∷◌, ◌++◌, ◌≡◌, chars, Option, Some, None}
 use Rattle.doc_rules.specs.Characters.{Text}
 use Rattle.doc_rules.specs.Columns.{Line}
-use Rattle.doc_rules.specs.Entities.{Table}
+use Rattle.doc_rules.specs.Rules.{Rules}
 use Rattle.doc_rules.specs.Forests.{◌▹◌}
 use Rattle.doc_rules.specs.Trees.{LeafLines, line_text}
 use Rattle.doc_rules.specs.Definitions.{Definition, definitions_of}
+use Rattle.doc_rules.specs.Tables.{has_table}
 use Rattle.doc_rules.specs.Blocks.{Leaf, Heading, Blocks, with_leaf, with_text}
-use Rattle.doc_blocks_leaves.specs.Leaves as rules
+use Rattle.doc_blocks_leaves.specs.Leaves as specs
 use Rattle.doc_blocks_starts.specs.Fences.{fence_shown}
 use Rattle.doc_blocks_starts.specs.HtmlKinds.{kind_of}
 use Rattle.doc_blocks_leaves.specs.declared.leaf.kind.Kind.{Kind}
@@ -25,32 +26,42 @@ abbrev pub kept_by : Bool → Gathering → Text
 kept_by blank lines = elim blank [ true ↦ lines.kept | false ↦ lines.all ]
 
 -- an open leaf of this kind with these lines
-unfoldable pub leaf_shown : Kind → Gathering → rules.OpenLeaf
-leaf_shown kinds.Nothing lines = rules.NoLeaf
-leaf_shown kinds.Paragraph lines = rules.OpenParagraph lines.all
-leaf_shown kinds.Code lines = rules.OpenCode lines.all lines.kept
-leaf_shown (kinds.Fenced fence info) lines = rules.OpenFence (fence_shown fence) (chars info) lines.all
-leaf_shown (kinds.Html kind) lines = rules.OpenHtml (kind_of kind) lines.all lines.kept
+unfoldable pub leaf_shown : Kind → Gathering → specs.OpenLeaf
+leaf_shown kinds.Nothing lines = specs.NoLeaf
+leaf_shown (kinds.Paragraph table) lines = specs.OpenParagraph lines.all
+leaf_shown kinds.Code lines = specs.OpenCode lines.all lines.kept
+leaf_shown (kinds.Fenced fence info) lines = specs.OpenFence (fence_shown fence) (chars info) lines.all
+leaf_shown (kinds.Html kind) lines = specs.OpenHtml (kind_of kind) lines.all lines.kept
+
+-- of a paragraph the kind says whether a table is in it
+abbrev pub IsTold : Kind → Gathering → Type 0
+IsTold (kinds.Paragraph table) lines = table ≡ has_table lines.all
+IsTold kind lines = Unit {0}
+
+-- the leaf is a paragraph with a table in it
+unfoldable pub holds_table : specs.OpenLeaf → Bool
+holds_table (specs.OpenParagraph text) = has_table text
+holds_table leaf = false
 
 -- the text of the leaf, where it is a paragraph
-unfoldable pub paragraph_text : rules.OpenLeaf → Option Text
-paragraph_text (rules.OpenParagraph text) = Some text
+unfoldable pub paragraph_text : specs.OpenLeaf → Option Text
+paragraph_text (specs.OpenParagraph text) = Some text
 paragraph_text leaf = None
 
 -- there is an open leaf
-unfoldable pub is_open : rules.OpenLeaf → Bool
-is_open rules.NoLeaf = false
+unfoldable pub is_open : specs.OpenLeaf → Bool
+is_open specs.NoLeaf = false
 is_open leaf = true
 
 -- what the leaf did with a line, which is this leaf now
-abbrev pub taken_shown : LineTaken → rules.OpenLeaf → rules.Taken
-taken_shown No leaf = rules.NotTaken
-taken_shown (GoesOn blank) leaf = rules.GoesOn leaf blank
-taken_shown (Closes blank) leaf = rules.Closes leaf blank
+abbrev pub taken_shown : LineTaken → specs.OpenLeaf → specs.Taken
+taken_shown No leaf = specs.NotTaken
+taken_shown (GoesOn blank) leaf = specs.GoesOn leaf blank
+taken_shown (Closes blank) leaf = specs.Closes leaf blank
 
 -- an open paragraph with which this line goes on (4.8)
-unfoldable pub leaf_continued : Line → rules.OpenLeaf → rules.OpenLeaf
-leaf_continued line (rules.OpenParagraph text) = rules.OpenParagraph (text ++ 10 ∷ line_text line)
+unfoldable pub leaf_continued : Line → specs.OpenLeaf → specs.OpenLeaf
+leaf_continued line (specs.OpenParagraph text) = specs.OpenParagraph (text ++ 10 ∷ line_text line)
 leaf_continued line leaf = leaf
 
 -- these blocks and a leaf of this text behind them, where there is a text
@@ -59,23 +70,23 @@ with_leaf_of leaf None before = before
 with_leaf_of leaf (Some text) before = before ▹ leaf text
 
 -- these blocks when a leaf has begun behind them: it is one of them where it is no open leaf
-unfoldable pub with_begun : Table → LeafLines → rules.OpenLeaf → Blocks → Blocks
-with_begun table leaf rules.NoLeaf before = with_leaf table leaf before
-with_begun table leaf other before = before
+unfoldable pub with_begun : Rules → LeafLines → specs.OpenLeaf → Blocks → Blocks
+with_begun rules leaf specs.NoLeaf before = with_leaf rules leaf before
+with_begun rules leaf other before = before
 
 -- ---- an underline (4.3)
 
 -- the leaf behind an underline: a paragraph has become a heading
-unfoldable pub underlined : rules.OpenLeaf → rules.OpenLeaf
-underlined (rules.OpenParagraph text) = rules.NoLeaf
+unfoldable pub underlined : specs.OpenLeaf → specs.OpenLeaf
+underlined (specs.OpenParagraph text) = specs.NoLeaf
 underlined leaf = leaf
 
 -- these blocks and behind them the heading that an open paragraph becomes, where definitions leave any text
-unfoldable pub with_underlined : Table → ℕ → rules.OpenLeaf → Blocks → Blocks
-with_underlined table level (rules.OpenParagraph text) before = with_text (Heading level) (definitions_of table text).1 before
-with_underlined table level leaf before = before
+unfoldable pub with_underlined : Rules → ℕ → specs.OpenLeaf → Blocks → Blocks
+with_underlined rules level (specs.OpenParagraph text) before = with_text (Heading level) (definitions_of rules text).1 before
+with_underlined rules level leaf before = before
 
 -- the definitions that leave an open paragraph when it becomes one
-unfoldable pub underlined_references : Table → rules.OpenLeaf → List Definition
-underlined_references table (rules.OpenParagraph text) = (definitions_of table text).0
-underlined_references table leaf = []
+unfoldable pub underlined_references : Rules → specs.OpenLeaf → List Definition
+underlined_references rules (specs.OpenParagraph text) = (definitions_of rules text).0
+underlined_references rules leaf = []

@@ -1,11 +1,13 @@
 -- The path of open blocks of a document that is read line by line, with the finished blocks at each of its levels
 -- (the appendix of CommonMark 0.31.2). It says of the lines so far all that the document and the lines to come need.
-use Rattle.std.specs.Prelude.{ℕ, nat_le, Bool, true, false, ◌&&◌, ◌||◌, not, Option, Some, None}
+use Rattle.std.specs.Prelude.{ℕ, nat_le, Bool, true, false, ◌&&◌, ◌||◌, not, Option, Some, None, if◌then◌else◌}
 use Rattle.doc_rules.specs.Characters.{Text}
 use Rattle.doc_rules.specs.Columns.{Line, skip, indent, is_blank_line}
 use Rattle.doc_rules.specs.ContainerStarts.{ListKind, is_same_kind, quote_start}
 use Rattle.doc_rules.specs.Forests.{none, node}
+use Rattle.doc_rules.specs.Rules.{Rules}
 use Rattle.doc_rules.specs.Trees.{Situation, NoParagraph, LazyParagraph}
+use Rattle.doc_rules.specs.Tables.{has_table}
 use Rattle.doc_rules.specs.Blocks.{Blocks, ListBlock, list_start}
 use Rattle.doc_blocks_leaves.specs.Leaves.{OpenLeaf, NoLeaf, OpenParagraph}
 
@@ -63,8 +65,10 @@ paragraph_of (Here level leaf blank) = None
 paragraph_of (Inside level container path) = paragraph_of path
 
 -- the paragraph that a line could go on with which didn't match the container over this path
-unfoldable pub lazy_path_situation : Path → Situation
-lazy_path_situation path = elim (paragraph_of path) [ Some text ↦ LazyParagraph | None ↦ NoParagraph ]
+unfoldable pub lazy_path_situation : Rules → Path → Situation
+lazy_path_situation rules path =
+    elim (paragraph_of path)
+    [ Some text ↦ if rules.tables && has_table text then NoParagraph else LazyParagraph | None ↦ NoParagraph ]
 
 -- ---- levels
 

@@ -5,7 +5,7 @@ use Rattle.doc_rules.specs.Trees as rules
 use Rattle.doc_blocks_starts.specs.Fences.{fence_shown}
 use Rattle.doc_blocks_starts.specs.HtmlKinds.{kind_of}
 use Rattle.doc_blocks_leaves.specs.declared.start.Situation.{Situation}
-use Rattle.doc_blocks_leaves.specs.declared.start.Situation.TheVariants.{NoParagraph, InParagraph, LazyParagraph}
+use Rattle.doc_blocks_leaves.specs.declared.start.Situation.TheVariants.{NoParagraph, InParagraph, LazyParagraph, InTable}
 use Rattle.doc_blocks_leaves.specs.declared.start.NewLeaf.{NewLeaf}
 use Rattle.doc_blocks_leaves.specs.declared.start.NewLeaf.TheVariants as leaves
 use Rattle.doc_blocks_leaves.specs.declared.start.LeafStart.{LeafStart}
@@ -15,6 +15,7 @@ abbrev pub situation_of : Situation → rules.Situation
 situation_of NoParagraph = rules.NoParagraph
 situation_of (InParagraph text) = rules.InParagraph (chars text.now)
 situation_of LazyParagraph = rules.LazyParagraph
+situation_of InTable = rules.InTable
 
 -- a leaf that this line begins
 unfoldable pub leaf_lines : Line → NewLeaf → rules.LeafLines

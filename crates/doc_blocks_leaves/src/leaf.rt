@@ -1,16 +1,17 @@
 //! The open leaf of a document that is read line by line: the last block, where it may take the next line.
-ghost use Rattle.std.specs.Prelude.{◌≡◌, [], ◌∷◌, ◌++◌, IfOk, OnOk};
+ghost use Rattle.std.specs.Prelude.{◌≡◌, [], ◌∷◌, ◌++◌, option_map, IfOk, OnOk};
 ghost use Rattle.doc_rules.specs.Columns.{text_of};
-ghost use Rattle.doc_rules.specs.Entities.{Table};
+ghost use Rattle.doc_rules.specs.Rules.{Rules};
+ghost use Rattle.doc_rules.specs.Tables.{has_table};
 ghost use Rattle.doc_rules.specs.Trees.{HtmlLines, line_text};
 ghost use Rattle.doc_rules.specs.Blocks.{Blocks};
 ghost use Rattle.doc_blocks_leaves.specs.Leaves.{NoLeaf, OpenParagraph, OpenCode, open_of, code_with, taken, with_open, open_references};
 ghost use Rattle.doc_lines.specs.Cursors.{left_of};
 ghost use Rattle.doc_lines.specs.RestSteps.{rest_of};
 ghost use Rattle.doc_refs_parts.specs.Targets.{targets_of, joined};
-ghost use Rattle.doc_blocks_leaves.specs.OpenLeaves.{is_open, paragraph_text, taken_shown, leaf_continued, underlined, with_underlined, underlined_references, with_begun};
+ghost use Rattle.doc_blocks_leaves.specs.OpenLeaves.{is_open, holds_table, paragraph_text, taken_shown, leaf_continued, underlined, with_underlined, underlined_references, with_begun};
 ghost use Rattle.doc_blocks_leaves.specs.Starts.{leaf_lines};
-ghost use Rattle.doc_blocks_leaves.specs.Views.{with_block};
+ghost use Rattle.doc_blocks_leaves.specs.Views.{with_block, with_closed};
 ghost use Rattle.doc_blocks_leaves.specs.declared.leaf.take.LineTaken.TheVariants as answers;
 ghost use Rattle.doc_blocks_starts.specs.HtmlKinds.{kind_of};
 
@@ -20,11 +21,11 @@ mod take;
 
 use crate::gathered::Gathered;
 use crate::line::CODE;
-use crate::paragraph::paragraph_text;
+use crate::paragraph::{Closed, paragraph_text};
 use crate::start::NewLeaf;
 use close::closed;
 use doc_blocks_starts::html::HtmlKind;
-use doc_blocks_starts::indentation::is_blank_line;
+use doc_blocks_starts::indentation::{after_indent, is_blank_line};
 use doc_blocks_starts::tag::LeafBlock;
 use doc_blocks_starts::texts::Texts;
 use doc_lines::cursor::Cursor;
@@ -33,6 +34,7 @@ use doc_lines::unescape;
 use doc_page_parts::failure::Memory;
 use doc_page_parts::heap::Heap;
 use doc_refs::RefMap;
+use doc_tables::table::{begins_behind, has_table};
 use kind::Kind;
 use std::marker::Model;
 use std::mem;
@@ -53,11 +55,13 @@ pub struct OpenLeaf<'t> {
 
 impl<'t> Model for OpenLeaf<'t> {
     ghost use Rattle.doc_blocks_leaves.specs.Leaves as rules;
-    ghost use Rattle.doc_blocks_leaves.specs.OpenLeaves.{leaf_shown};
+    ghost use Rattle.doc_blocks_leaves.specs.OpenLeaves.{leaf_shown, IsTold};
 
     ghost Value = { rules.OpenLeaf };
 
     ghost view = { λ leaf. leaf_shown leaf.kind leaf.lines };
+
+    ghost invariant = { λ leaf. IsTold leaf.kind leaf.lines };
 }
 
 impl<'t> OpenLeaf<'t> {
@@ -87,8 +91,19 @@ impl<'t> OpenLeaf<'t> {
         ensures { rest_of result ≡ paragraph_text self.now }
     {
         match self.kind {
-            Kind::Paragraph => Some(self.lines.all()),
+            Kind::Paragraph { .. } => Some(self.lines.all()),
             _ => None,
+        }
+    }
+
+    /// Whether the leaf is a paragraph with a table in it.
+    #[tactic(auto, unfolding(crate::specs::OpenLeaves::leaf_shown, crate::specs::OpenLeaves::holds_table))]
+    pub fn holds_table(&self) -> bool
+        ensures { result ≡ holds_table self.now }
+    {
+        match &self.kind {
+            Kind::Paragraph { table } => *table,
+            _ => false,
         }
     }
 
@@ -101,31 +116,31 @@ impl<'t> OpenLeaf<'t> {
         ensures no { IfOk result (λ answer. answer ≡ answers.No → self.new ≡ self.old) }
     {
         match &self.kind {
-            Kind::Nothing | Kind::Paragraph => Ok(LineTaken::No),
+            Kind::Nothing | Kind::Paragraph { .. } => Ok(LineTaken::No),
             Kind::Code => take_code(&mut self.lines, line),
             Kind::Fenced { fence, info: _ } => take_fenced(*fence, &mut self.lines, line),
             Kind::Html(kind) => take_html(*kind, &mut self.lines, line),
         }
     }
 
-    /// Closes the leaf, and answers its block, if it is one: a paragraph of definitions alone is none. What definitions name joins `refs`.
+    /// Closes the leaf, and answers its blocks: a paragraph of definitions alone is none. What definitions name joins `refs`.
     #[tactic(auto, unfolding(crate::specs::OpenLeaves::leaf_shown))]
     pub fn close(
         &mut self,
         heap: Heap,
         entities: &Entities,
         refs: &mut RefMap,
-    ) -> Result<Option<LeafBlock<'t>>, Memory>
+    ) -> Result<Closed<'t>, Memory>
         ensures leaf { OnOk result (self.new ≡ NoLeaf) }
-        ensures block { IfOk result (λ block. (before : Blocks)
-            → with_block block before ≡ with_open entities.now self.old before) }
+        ensures blocks { IfOk result (λ blocks. (before : Blocks)
+            → with_closed blocks before ≡ with_open entities.now self.old before) }
         ensures refs { OnOk result (refs.new
             ≡ joined refs.old (targets_of (open_references entities.now self.old))) }
     {
         let kind = mem::replace(&mut self.kind, Kind::Nothing);
-        let block = closed(heap, self.texts, kind, &self.lines, entities, refs)?;
+        let blocks = closed(heap, self.texts, kind, &self.lines, entities, refs)?;
         self.lines.clear();
-        Ok(block)
+        Ok(blocks)
     }
 
     /// Makes a heading of this level of the open paragraph (CommonMark 0.31.2, section 4.3), and answers it, if definitions leave any text.
@@ -169,9 +184,13 @@ impl<'t> OpenLeaf<'t> {
     pub fn begin_paragraph(&mut self, line: &Cursor) -> Result<(), Memory>
         ensures { OnOk result (self.new ≡ OpenParagraph (line_text (left_of line.now))) }
     {
-        self.kind = Kind::Paragraph;
+        self.kind = Kind::Nothing;
         self.lines.clear();
-        self.lines.add_text(line)
+        self.lines.add_text(line)?;
+        self.kind = Kind::Paragraph {
+            table: has_table(self.lines.all()),
+        };
+        Ok(())
     }
 
     /// Goes on with the open paragraph (CommonMark 0.31.2, section 4.8). Where no paragraph is open, nothing happens.
@@ -179,9 +198,27 @@ impl<'t> OpenLeaf<'t> {
     pub fn continue_paragraph(&mut self, line: &Cursor) -> Result<(), Memory>
         ensures { OnOk result (self.new ≡ leaf_continued (left_of line.now) self.old) }
     {
-        match self.kind {
-            Kind::Paragraph => self.lines.add_next_text(line),
-            _ => Ok(()),
+        let Some(table) = self.holds_table_with(line) else {
+            return Ok(());
+        };
+        self.kind = Kind::Nothing;
+        self.lines.add_next_text(line)?;
+        self.kind = Kind::Paragraph { table };
+        Ok(())
+    }
+
+    /// Whether the open paragraph, if there is one, has a table in it when this line goes on with it. Nothing of its text is read but the
+    /// last line.
+    #[tactic(auto, unfolding(crate::specs::OpenLeaves::leaf_shown, crate::specs::OpenLeaves::paragraph_text))]
+    fn holds_table_with(&self, line: &Cursor) -> Option<bool>
+        ensures { result ≡ option_map (λ text. has_table (text ++ 10 ∷ line_text (left_of line.now)))
+            (paragraph_text self.now) }
+    {
+        match &self.kind {
+            Kind::Paragraph { table } => {
+                Some(*table || begins_behind(self.lines.all(), after_indent(line)))
+            }
+            _ => None,
         }
     }
 
@@ -242,13 +279,13 @@ impl<'t> OpenLeaf<'t> {
         kind: HtmlKind,
         goes_on: bool,
     ) -> Result<Option<LeafBlock<'t>>, Memory>
-        ensures leaf { (table : Table)
-            → OnOk result (self.new ≡ open_of table
+        ensures leaf { (rules : Rules)
+            → OnOk result (self.new ≡ open_of rules
             (HtmlLines goes_on (kind_of kind) (text_of (left_of line.now) ∷ []))) }
-        ensures block { (table : Table)
+        ensures block { (rules : Rules)
             → IfOk result (λ block. (before : Blocks) → with_block block before
-            ≡ with_begun table (HtmlLines goes_on (kind_of kind) (text_of (left_of line.now) ∷ []))
-            (open_of table (HtmlLines goes_on (kind_of kind) (text_of (left_of line.now) ∷ [])))
+            ≡ with_begun rules (HtmlLines goes_on (kind_of kind) (text_of (left_of line.now) ∷ []))
+            (open_of rules (HtmlLines goes_on (kind_of kind) (text_of (left_of line.now) ∷ [])))
             before) }
     {
         self.kind = Kind::Nothing;

@@ -1,20 +1,126 @@
 //! A paragraph's text and the definitions at its front (CommonMark 0.31.2, sections 4.7 and 4.8).
-ghost use Rattle.std.specs.Prelude.{◌≡◌, ◌==◌, [], false, length, chars, IfOk, OnOk};
+ghost use Rattle.std.specs.Prelude.{◌≡◌, ◌==◌, [], false, None, length, chars, MatchOption, IfOk, OnOk};
 ghost use Rattle.doc_rules.specs.Characters.{Text};
-ghost use Rattle.doc_rules.specs.Entities.{Table};
+ghost use Rattle.doc_rules.specs.Rules.{Rules};
 ghost use Rattle.doc_rules.specs.Definitions.{definitions_of};
-ghost use Rattle.doc_rules.specs.Blocks.{Leaf, Blocks, with_text};
+ghost use Rattle.doc_rules.specs.Blocks.{Leaf, Paragraph, TableBlock, Blocks, with_text, table_of};
 ghost use Rattle.doc_lines.specs.RestSteps.{rest_of};
 ghost use Rattle.doc_refs_parts.specs.Targets.{targets_of, joined};
+ghost use Rattle.doc_blocks_starts.specs.Tags.{leaf_shown};
+ghost use Rattle.doc_blocks_leaves.specs.Leaves.{OpenParagraph, with_open, open_references};
 ghost use Rattle.doc_blocks_leaves.specs.OpenLeaves.{with_leaf_of};
+ghost use Rattle.doc_blocks_leaves.specs.TableTexts.{table_shown, IsTableOf};
+ghost use Rattle.doc_blocks_leaves.specs.Views.{with_block, with_closed};
 
 use crate::strip::strip_end;
+use doc_blocks_starts::tag::LeafBlock;
 use doc_blocks_starts::texts::Texts;
 use doc_lines::entities::Entities;
 use doc_lines::scan::character::next_char;
 use doc_page_parts::failure::Memory;
 use doc_page_parts::heap::Heap;
 use doc_refs::{RefMap, take_definitions};
+use doc_tables::table::{TableText, first_table};
+
+/// The blocks that an open leaf leaves when it closes.
+#[derive(Clone, Copy)]
+pub struct Closed<'t> {
+    /// Its block, or the paragraph before a table.
+    pub block: Option<LeafBlock<'t>>,
+    /// The table in a paragraph.
+    pub table: Option<LeafBlock<'t>>,
+}
+
+impl<'t> Closed<'t> {
+    /// One block, or none.
+    #[tactic(auto, unfolding(crate::specs::Views::with_closed, crate::specs::Views::with_block))]
+    pub fn of(block: Option<LeafBlock<'t>>) -> Closed<'t>
+        ensures { (before : Blocks) → with_closed result before ≡ with_block block.entry before }
+    {
+        Closed { block, table: None }
+    }
+}
+
+/// The blocks of a paragraph's text: the paragraph that definitions leave, if they leave any, and behind it the table in the text, where
+/// tables are read (GitHub Flavored Markdown 0.29, section 4.10). Their texts stand in `texts`. What the definitions name joins `refs`.
+pub fn paragraph_blocks<'t>(
+    heap: Heap,
+    texts: &'t Texts,
+    text: &str,
+    entities: &Entities,
+    refs: &mut RefMap,
+) -> Result<Closed<'t>, Memory>
+    ensures blocks { IfOk result (λ blocks. (before : Blocks)
+        → with_closed blocks before ≡ with_open entities.now (OpenParagraph (chars text.now)) before) }
+    ensures refs { OnOk result (refs.new ≡ joined refs.old
+        (targets_of (open_references entities.now (OpenParagraph (chars text.now))))) }
+{
+    let Some(found) = table_of(text, entities) else {
+        let block = paragraph(heap, texts, text, entities, refs)?;
+        return Ok(Closed::of(block));
+    };
+    let block = paragraph(heap, texts, found.before, entities, refs)?;
+    let table = kept_table(texts, found)?;
+    Ok(Closed {
+        block,
+        table: Some(table),
+    })
+}
+
+/// The table in a text, where tables are read.
+fn table_of<'a>(text: &'a str, entities: &Entities) -> Option<TableText<'a>>
+    ensures { MatchOption result (table_of entities.now (chars text.now) ≡ None)
+        (λ found. IsTableOf entities.now (chars text.now) found) }
+{
+    if !entities.tables() {
+        return None;
+    }
+    first_table(text)
+}
+
+/// A table, with its texts in `texts`.
+#[tactic(auto, unfolding(doc_blocks_starts::specs::Tags::leaf_shown))]
+fn kept_table<'t>(texts: &'t Texts, found: TableText) -> Result<LeafBlock<'t>, Memory>
+    ensures { IfOk result (λ table. leaf_shown table ≡ TableBlock (table_shown found.entry)) }
+{
+    let header = texts.keep(found.header)?;
+    let delimiters = texts.keep(found.delimiters)?;
+    let rows = kept_rows(texts, found.rows)?;
+    Ok(LeafBlock::Table {
+        header,
+        delimiters,
+        rows,
+    })
+}
+
+fn kept_rows<'t>(texts: &'t Texts, rows: Option<&str>) -> Result<Option<&'t str>, Memory>
+    ensures { IfOk result (λ kept. rest_of kept ≡ rest_of rows.entry) }
+{
+    match rows {
+        Some(rows) => Ok(Some(texts.keep(rows)?)),
+        None => Ok(None),
+    }
+}
+
+/// The paragraph that definitions leave of a text, if they leave any.
+fn paragraph<'t>(
+    heap: Heap,
+    texts: &'t Texts,
+    text: &str,
+    entities: &Entities,
+    refs: &mut RefMap,
+) -> Result<Option<LeafBlock<'t>>, Memory>
+    ensures block { IfOk result (λ block. (before : Blocks) → with_block block before
+        ≡ with_text Paragraph (definitions_of entities.now (chars text.now)).1 before) }
+    ensures refs { OnOk result (refs.new ≡ joined refs.old
+        (targets_of (definitions_of entities.now (chars text.now)).0)) }
+{
+    let text = paragraph_text(heap, texts, text, entities, refs)?;
+    match text {
+        Some(text) => Ok(Some(LeafBlock::Para(text))),
+        None => Ok(None),
+    }
+}
 
 /// The text that definitions leave of a paragraph, if they leave any, without spaces and tabs at its end. It stands in `texts`. What
 /// the definitions name joins `refs`.
@@ -73,8 +179,8 @@ pub fn has_only_definitions(heap: Heap, text: &str, entities: &Entities) -> Resu
 
 /// Whether the first character is one with which definitions can begin.
 fn may_define(text: &str) -> bool
-    ensures { result ≡ false → (table : Table)
-        → definitions_of table (chars text.now) ≡ ([], chars text.now) }
+    ensures { result ≡ false → (rules : Rules)
+        → definitions_of rules (chars text.now) ≡ ([], chars text.now) }
 {
     match next_char(text) {
         Some((c, _)) => c == '[' || c == ' ',

@@ -3,8 +3,10 @@ ghost use Rattle.std.specs.Prelude.{◌≡◌, ◌≤◌, chars, IfOk};
 ghost use Rattle.doc_rules.specs.Columns.{indent};
 ghost use Rattle.doc_rules.specs.Trees.{has_no_paragraph, leaf_begins, text_begins, atx_begins, fence_begins, html_begins, setext_begins, break_begins};
 ghost use Rattle.doc_lines.specs.Cursors.{left_of};
+ghost use Rattle.doc_blocks_leaves.specs.OpenBlocks.{goes_on_with};
 ghost use Rattle.doc_blocks_leaves.specs.Starts.{situation_of, start_of, or_else};
 
+use crate::line::is_indented;
 use crate::paragraph::has_only_definitions;
 use doc_blocks_starts::fence::{FenceStart, opening_fence};
 use doc_blocks_starts::heading::{Heading, atx_heading, underline_level};
@@ -25,6 +27,8 @@ pub enum Situation<'a> {
     InParagraph(&'a str),
     /// The line could go on with it only lazily.
     LazyParagraph,
+    /// The line is in all containers of a paragraph with a table in it, which is none to the line but that it may be a row.
+    InTable,
 }
 
 /// A leaf that a line begins.
@@ -126,7 +130,7 @@ fn html_block_start<'a>(situation: Situation, line: &Cursor, text: &str) -> Opti
 fn has_no_paragraph(situation: Situation) -> bool
     ensures { result ≡ has_no_paragraph (situation_of situation.entry) }
 {
-    matches!(situation, Situation::NoParagraph)
+    matches!(situation, Situation::NoParagraph | Situation::InTable)
 }
 
 /// The underline of a setext heading (section 4.3). It is never lazy, and where only definitions stand above it, it is none.
@@ -181,5 +185,18 @@ fn hyphens_start<'a>(
     match underline {
         Some(start) => Ok(Some(start)),
         None => Ok(break_start(line, text)),
+    }
+}
+
+/// Whether the open paragraph goes on with a line that begins nothing and isn't blank. Behind a table such a line is a row, unless it is
+/// indented as code.
+#[tactic(auto, unfolding(crate::specs::OpenBlocks::goes_on_with))]
+pub fn goes_on_with(situation: Situation, line: &Cursor) -> bool
+    ensures { result ≡ goes_on_with (situation_of situation.entry) (left_of line.now) }
+{
+    match situation {
+        Situation::NoParagraph => false,
+        Situation::InTable => !is_indented(line),
+        Situation::InParagraph(_) | Situation::LazyParagraph => true,
     }
 }

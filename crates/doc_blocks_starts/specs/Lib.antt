@@ -4,5 +4,6 @@ pub mod HtmlKinds
 pub mod ItemSteps
 pub mod Items
 pub mod Lines
+pub mod Tables
 pub mod Tags
 pub mod OpenTags

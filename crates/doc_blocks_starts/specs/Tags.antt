@@ -1,8 +1,10 @@
 -- Blocks in a row as tags, in the order of the text (CommonMark 0.31.2, sections 4 and 5).
 use Rattle.std.specs.Prelude.{List, [], ◌∷◌, ◌++◌, map, chars}
 use Rattle.doc_rules.specs.Forests.{none, ◌▹◌, node}
-use Rattle.doc_rules.specs.Blocks.{Leaf, Paragraph, Heading, IndentedCode, FencedCode, HtmlBlock, ThematicBreak}
+use Rattle.doc_rules.specs.Blocks.{Leaf, Paragraph, Heading, IndentedCode, FencedCode, HtmlBlock, ThematicBreak, TableBlock, Task}
 use Rattle.doc_rules.specs.Blocks.{Container, BlockQuote, ListBlock, ListItem, Blocks}
+use Rattle.doc_lines.specs.RestSteps.{rest_of}
+use Rattle.doc_blocks_starts.specs.Tables.{lines_in, source_of}
 use Rattle.doc_blocks_starts.specs.declared.tag.LeafBlock.{LeafBlock}
 use Rattle.doc_blocks_starts.specs.declared.tag.LeafBlock.TheVariants as leaf
 use Rattle.doc_blocks_starts.specs.declared.tag.ContainerBlock.{ContainerBlock}
@@ -31,6 +33,8 @@ leaf_shown (leaf.Code text) = IndentedCode (chars text.now)
 leaf_shown (leaf.Fence info text) = FencedCode (chars info.now) (chars text.now)
 leaf_shown (leaf.Html text) = HtmlBlock (chars text.now)
 leaf_shown leaf.Break = ThematicBreak
+leaf_shown (leaf.Table header delimiters rows) = TableBlock (source_of (chars header.now) (chars delimiters.now) (lines_in (rest_of rows)))
+leaf_shown (leaf.Task done text) = Task done (chars text.now)
 
 unfoldable pub container_shown : ContainerBlock → Container
 container_shown container.Quote = BlockQuote

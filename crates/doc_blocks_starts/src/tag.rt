@@ -1,20 +1,38 @@
 //! Tags.
 
-/// A leaf block (CommonMark 0.31.2, section 4).
+/// A leaf block (CommonMark 0.31.2, section 4; tables and tasks: GitHub Flavored Markdown 0.29, sections 4.10 and
+/// 5.3).
 #[derive(Clone, Copy)]
 pub enum LeafBlock<'t> {
     /// A paragraph, without the definitions at its front.
     Para(&'t str),
     /// A heading of a level from 1 to 6.
-    Heading { level: u8, text: &'t str },
+    Heading {
+        level: u8,
+        text: &'t str,
+    },
     /// Indented code. Each line ends in LF.
     Code(&'t str),
     /// A fenced code block with its info string, whose escapes and references are read. Each line ends in LF.
-    Fence { info: &'t str, text: &'t str },
+    Fence {
+        info: &'t str,
+        text: &'t str,
+    },
     /// An HTML block, its lines joined by LF.
     Html(&'t str),
     /// A thematic break.
     Break,
+    /// A table: its header, its delimiter row, and the lines behind them, joined by LF, if there are any. Their cells are still to be read.
+    Table {
+        header: &'t str,
+        delimiters: &'t str,
+        rows: Option<&'t str>,
+    },
+    /// The first paragraph of an item that is a task, without the marker.
+    Task {
+        done: bool,
+        text: &'t str,
+    },
 }
 
 /// A container block (CommonMark 0.31.2, section 5), without what stands in it. Items stand in lists.

@@ -8,7 +8,7 @@ use Rattle.doc_page_parts.specs.declared.linker.Shown.{Shown}
 use Rattle.doc_page_parts.specs.Pages.{opening_tag, filled as page_filled}
 use Rattle.doc_rules.specs.Characters.{Text}
 use Rattle.doc_rules.specs.Destinations.{Target}
-use Rattle.doc_rules.specs.Entities.{Table}
+use Rattle.doc_rules.specs.Rules.{Rules}
 use Rattle.doc_rules.specs.Blocks.{Document}
 use Rattle.doc_rules.specs.Html.{Character, LinkTag, Output, output_of, Linker, written_text, html_of}
 use Rattle.doc_rules.specs.Pages.{Page, LinkPiece, filled, piece_text, encoded, encoded_piece}
@@ -37,7 +37,7 @@ module _ (linker : Linker) (shown : List ℕ → Shown) (alike : ShowsAlike show
       ∙ (sym (encodes-append (flat_map (written_text linker) (LinkTag target ∷ [])) (flat_map (written_text linker) more))
       ∙ ap encode_utf8_all (sym (flat_map-append (written_text linker) (LinkTag target ∷ []) more))))
 
-pub html_by_bytes : (table : Table) (anchors : List Text) (document : Document) (linker : Linker) (shown : List ℕ → Shown)
-    → ShowsAlike shown linker → html_bytes table shown anchors document ≡ encode_utf8_all (html_of table linker anchors document)
+pub html_by_bytes : (rules : Rules) (anchors : List Text) (document : Document) (linker : Linker) (shown : List ℕ → Shown)
+    → ShowsAlike shown linker → html_bytes rules shown anchors document ≡ encode_utf8_all (html_of rules linker anchors document)
 unfolding html_bytes html_of
-html_by_bytes table anchors document linker shown alike = output_by_bytes linker shown alike (output_of table anchors document)
+html_by_bytes rules anchors document linker shown alike = output_by_bytes linker shown alike (output_of rules anchors document)

@@ -8,6 +8,8 @@ pub mod TagSteps
 pub mod FlatteningSteps
 pub mod WordSteps
 pub mod WriterSteps
+pub mod TableSteps
+pub mod TableLaws
 pub mod WrittenSteps
 pub mod PieceSteps
 pub mod PageSteps

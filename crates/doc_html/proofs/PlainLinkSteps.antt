@@ -20,7 +20,7 @@ use Rattle.doc_page_encoding.proofs.EncodingLaws.{IsBytes}
 use Rattle.doc_page_parts.specs.declared.linker.Shown.TheVariants.{Href}
 use Rattle.doc_rules.specs.Characters.{Text, one_of}
 use Rattle.doc_rules.specs.Escaping.{percent, url_char, url_escape}
-use Rattle.doc_rules.specs.Entities.{Table}
+use Rattle.doc_rules.specs.Rules.{Rules}
 use Rattle.doc_rules.specs.Blocks.{document_of}
 use Rattle.doc_rules.specs.Html.{plain_linker, html_of, rendered_plain}
 use Rattle.doc_rules.specs.Pages.{encoded_shown}
@@ -165,6 +165,6 @@ pub plain_alike : ShowsAlike plain_shown plain_linker
 unfolding plain_shown plain_linker encoded_shown
 plain_alike dest = ap (λ u. Href (encode_utf8_all u)) (sym (url_by_bytes dest))
 
-pub plain_told : (table : Table) (text : Text) → html_of table plain_linker [] (document_of table text) ≡ rendered_plain table text
+pub plain_told : (rules : Rules) (text : Text) → html_of rules plain_linker [] (document_of rules text) ≡ rendered_plain rules text
 unfolding rendered_plain
-plain_told table text = refl
+plain_told rules text = refl

@@ -7,19 +7,20 @@ use Rattle.doc_html.specs.WrittenSteps.{HoldsHtml}
 use Rattle.doc_rules.specs.Characters.{Text}
 use Rattle.doc_rules.specs.Anchors.{anchor_name, free_anchor, anchors_behind}
 use Rattle.doc_rules.specs.Definitions.{Definition}
-use Rattle.doc_rules.specs.Entities.{Table}
+use Rattle.doc_rules.specs.Rules.{Rules}
 use Rattle.doc_rules.specs.Escaping.{html_escape}
 use Rattle.doc_rules.specs.Forests.{none, ◌▹◌, node}
 use Rattle.doc_rules.specs.Reading.{inlines_of}
-use Rattle.doc_rules.specs.Blocks.{Leaf, Paragraph, Heading, IndentedCode, FencedCode, HtmlBlock, ThematicBreak, Container, BlockQuote}
-use Rattle.doc_rules.specs.Blocks.{ListBlock, ListItem, Blocks}
+use Rattle.doc_rules.specs.Blocks.{Leaf, Paragraph, Heading, IndentedCode, FencedCode, HtmlBlock, ThematicBreak, TableBlock, Task}
+use Rattle.doc_rules.specs.Blocks.{Container, BlockQuote, ListBlock, ListItem, Blocks}
 use Rattle.doc_rules.specs.PlainTexts.{headings_in, leaf_headings, text_in}
 use Rattle.doc_rules.specs.Html.{Output, Writing, characters, inlines_html, is_fresh, write, write_text, new_line, paragraph_html}
-use Rattle.doc_rules.specs.Html.{id_attribute, heading_html, code_html, leaf_html, class_attribute, is_tight_inside, container_start}
-use Rattle.doc_rules.specs.Html.{container_end, blocks_html, output_of}
+use Rattle.doc_rules.specs.Html.{id_attribute, heading_html, code_html, leaf_html, class_attribute, table_html, task_box, is_tight_inside}
+use Rattle.doc_rules.specs.Html.{container_start, container_end, blocks_html, output_of}
 use Rattle.doc_html.specs.ProgressSteps.{Progress, begun, told, on_new_line, text_met, anchored, heading_met_at}
-use Rattle.doc_html.specs.TellingSteps.{paragraph_told, heading_told, code_told, leaf_told, start_told, end_told, blocks_told}
+use Rattle.doc_html.specs.TellingSteps.{paragraph_told, text_told, heading_told, code_told, leaf_told, start_told, end_told, blocks_told}
 use Rattle.doc_html.proofs.WriterSteps.{characters_append}
+use Rattle.doc_html.proofs.TableLaws.{table_is}
 
 -- the anchors of headings to come
 unfoldable pub anchors_for : Option (List Text) → List (ℕ × Text) → List Text
@@ -72,7 +73,7 @@ used_stays false p = refl
 
 -- ---- leaves
 
-module _ (table : Table) (refs : List Definition) where
+module _ (rules : Rules) (refs : List Definition) where
   paragraph_at : (tight : Bool) (inside : Output) (p : Progress) (more : List (ℕ × Text))
       → paragraph_html tight inside (writing_of p more) ≡ writing_of (paragraph_told tight inside p) more
   unfolding paragraph_html paragraph_told write writing_of
@@ -85,20 +86,24 @@ module _ (table : Table) (refs : List Definition) where
   code_at class text p more = ap (code_html class text) (on_line (text_met text p) more)
 
   leaf_at : (tight : Bool) (leaf : Leaf) (p : Progress) (more : List (ℕ × Text)) →
-      leaf_html table refs tight leaf (writing_of p (leaf_headings table refs leaf ++ more))
-      ≡ writing_of (leaf_told table refs tight leaf p) more
-  unfolding leaf_html leaf_told leaf_headings heading_told write writing_of text_met
-  leaf_at tight (Paragraph text) p more = paragraph_at tight (inlines_html 0 (inlines_of table refs text))
-      (text_met (text_in table refs text) p) more
+      leaf_html rules refs tight leaf (writing_of p (leaf_headings rules refs leaf ++ more))
+      ≡ writing_of (leaf_told rules refs tight leaf p) more
+  unfolding leaf_html leaf_told text_told leaf_headings heading_told characters write writing_of text_met
+  leaf_at tight (Paragraph text) p more = paragraph_at tight (inlines_html 0 (inlines_of rules refs text))
+      (text_met (text_in rules refs text) p) more
   leaf_at tight (Heading level text) p more =
-      let inside : Output = inlines_html 0 (inlines_of table refs text) in
-      ap (heading_html level inside) (on_line p ((level, text_in table refs text) ∷ more))
-      ∙ heading_at (on_new_line p).used level inside (text_in table refs text) (on_new_line p).output (on_new_line p) more
+      let inside : Output = inlines_html 0 (inlines_of rules refs text) in
+      ap (heading_html level inside) (on_line p ((level, text_in rules refs text) ∷ more))
+      ∙ heading_at (on_new_line p).used level inside (text_in rules refs text) (on_new_line p).output (on_new_line p) more
   leaf_at tight (IndentedCode text) p more = code_at [] text p more
   leaf_at tight (FencedCode info text) p more = code_at (class_attribute info) text p more
   leaf_at tight (HtmlBlock text) p more = ap (λ w. new_line (write_text text w)) (on_line p more)
       ∙ on_line (told (characters text) (on_new_line p)) more
   leaf_at tight ThematicBreak p more = ap (write_text (codes "<hr />\n")) (on_line p more)
+  leaf_at tight (TableBlock table) p more = ap (write (table_html rules refs table)) (on_line p more)
+      ∙ ap (λ q. writing_of q more) (sym (table_is rules refs table p))
+  leaf_at tight (Task done text) p more = paragraph_at tight (characters (task_box done) ++ inlines_html 0 (inlines_of rules refs text))
+      (text_met (text_in rules refs text) p) more
 
   -- ---- containers
 
@@ -117,28 +122,28 @@ module _ (table : Table) (refs : List Definition) where
   end_at ListItem p more = refl
 
   pub blocks_at : (tight : Bool) (blocks : Blocks) (p : Progress) (more : List (ℕ × Text)) →
-      blocks_html table refs tight blocks (writing_of p (headings_in table refs blocks ++ more))
-      ≡ writing_of (blocks_told table refs tight blocks p) more
+      blocks_html rules refs tight blocks (writing_of p (headings_in rules refs blocks ++ more))
+      ≡ writing_of (blocks_told rules refs tight blocks p) more
   unfolding blocks_html blocks_told headings_in
   blocks_at tight none p more = refl
   blocks_at tight (before ▹ leaf) p more =
-      let own : List (ℕ × Text) = leaf_headings table refs leaf in
-      ap (λ hs. leaf_html table refs tight leaf (blocks_html table refs tight before (writing_of p hs)))
-      (append_assoc (headings_in table refs before) own more)
-      ∙ (ap (leaf_html table refs tight leaf) (blocks_at tight before p (own ++ more))
-      ∙ leaf_at tight leaf (blocks_told table refs tight before p) more)
+      let own : List (ℕ × Text) = leaf_headings rules refs leaf in
+      ap (λ hs. leaf_html rules refs tight leaf (blocks_html rules refs tight before (writing_of p hs)))
+      (append_assoc (headings_in rules refs before) own more)
+      ∙ (ap (leaf_html rules refs tight leaf) (blocks_at tight before p (own ++ more))
+      ∙ leaf_at tight leaf (blocks_told rules refs tight before p) more)
   blocks_at tight (node before container inside) p more =
-      let own : List (ℕ × Text) = headings_in table refs inside in
+      let own : List (ℕ × Text) = headings_in rules refs inside in
       let deeper : Bool = is_tight_inside tight container in
-      let here : Progress = blocks_told table refs tight before p in
-      ap (λ hs. container_end container (blocks_html table refs deeper inside
-      (container_start container (blocks_html table refs tight before (writing_of p hs)))))
-      (append_assoc (headings_in table refs before) own more)
-      ∙ (ap (λ w. container_end container (blocks_html table refs deeper inside (container_start container w)))
+      let here : Progress = blocks_told rules refs tight before p in
+      ap (λ hs. container_end container (blocks_html rules refs deeper inside
+      (container_start container (blocks_html rules refs tight before (writing_of p hs)))))
+      (append_assoc (headings_in rules refs before) own more)
+      ∙ (ap (λ w. container_end container (blocks_html rules refs deeper inside (container_start container w)))
       (blocks_at tight before p (own ++ more))
-      ∙ (ap (λ w. container_end container (blocks_html table refs deeper inside w)) (start_at container here (own ++ more))
+      ∙ (ap (λ w. container_end container (blocks_html rules refs deeper inside w)) (start_at container here (own ++ more))
       ∙ (ap (container_end container) (blocks_at deeper inside (start_told container here) more)
-      ∙ end_at container (blocks_told table refs deeper inside (start_told container here)) more)))
+      ∙ end_at container (blocks_told rules refs deeper inside (start_told container here)) more)))
 
 -- ---- how links are shown stays
 
@@ -160,18 +165,21 @@ unfolding paragraph_told
 paragraph_keeps true inside p = refl
 paragraph_keeps false inside p = on_line_keeps p
 
-leaf_keeps : (table : Table) (refs : List Definition) (tight : Bool) (leaf : Leaf) (p : Progress)
-    → (leaf_told table refs tight leaf p).shown ≡ p.shown
-unfolding leaf_told heading_told code_told text_met
-leaf_keeps table refs tight (Paragraph text) p = paragraph_keeps tight (inlines_html 0 (inlines_of table refs text))
-    (text_met (text_in table refs text) p)
-leaf_keeps table refs tight (Heading level text) p =
-    heading_keeps (on_new_line p).used level (text_in table refs text) (told (characters (codes "<h" ++ decimal level)) (on_new_line p))
+leaf_keeps : (rules : Rules) (refs : List Definition) (tight : Bool) (leaf : Leaf) (p : Progress)
+    → (leaf_told rules refs tight leaf p).shown ≡ p.shown
+unfolding leaf_told text_told heading_told code_told text_met
+leaf_keeps rules refs tight (Paragraph text) p = paragraph_keeps tight (characters [] ++ inlines_html 0 (inlines_of rules refs text))
+    (text_met (text_in rules refs text) p)
+leaf_keeps rules refs tight (Heading level text) p =
+    heading_keeps (on_new_line p).used level (text_in rules refs text) (told (characters (codes "<h" ++ decimal level)) (on_new_line p))
     ∙ on_line_keeps p
-leaf_keeps table refs tight (IndentedCode text) p = on_line_keeps (text_met text p)
-leaf_keeps table refs tight (FencedCode info text) p = on_line_keeps (text_met text p)
-leaf_keeps table refs tight (HtmlBlock text) p = on_line_keeps (told (characters text) (on_new_line p)) ∙ on_line_keeps p
-leaf_keeps table refs tight ThematicBreak p = on_line_keeps p
+leaf_keeps rules refs tight (IndentedCode text) p = on_line_keeps (text_met text p)
+leaf_keeps rules refs tight (FencedCode info text) p = on_line_keeps (text_met text p)
+leaf_keeps rules refs tight (HtmlBlock text) p = on_line_keeps (told (characters text) (on_new_line p)) ∙ on_line_keeps p
+leaf_keeps rules refs tight ThematicBreak p = on_line_keeps p
+leaf_keeps rules refs tight (TableBlock table) p = ap (λ q. q.shown) (table_is rules refs table p) ∙ on_line_keeps p
+leaf_keeps rules refs tight (Task done text) p =
+    paragraph_keeps tight (characters (task_box done) ++ inlines_html 0 (inlines_of rules refs text)) (text_met (text_in rules refs text) p)
 
 start_keeps : (container : Container) (p : Progress) → (start_told container p).shown ≡ p.shown
 unfolding start_told
@@ -185,32 +193,32 @@ end_keeps BlockQuote p = on_line_keeps p
 end_keeps (ListBlock start tight) p = on_line_keeps p
 end_keeps ListItem p = refl
 
-pub blocks_keep : (table : Table) (refs : List Definition) (tight : Bool) (blocks : Blocks) (p : Progress)
-    → (blocks_told table refs tight blocks p).shown ≡ p.shown
+pub blocks_keep : (rules : Rules) (refs : List Definition) (tight : Bool) (blocks : Blocks) (p : Progress)
+    → (blocks_told rules refs tight blocks p).shown ≡ p.shown
 unfolding blocks_told
-blocks_keep table refs tight none p = refl
-blocks_keep table refs tight (before ▹ leaf) p = leaf_keeps table refs tight leaf (blocks_told table refs tight before p)
-    ∙ blocks_keep table refs tight before p
-blocks_keep table refs tight (node before container inside) p =
-    end_keeps container (blocks_told table refs (is_tight_inside tight container) inside
-    (start_told container (blocks_told table refs tight before p)))
-    ∙ (blocks_keep table refs (is_tight_inside tight container) inside (start_told container (blocks_told table refs tight before p))
-    ∙ (start_keeps container (blocks_told table refs tight before p) ∙ blocks_keep table refs tight before p))
+blocks_keep rules refs tight none p = refl
+blocks_keep rules refs tight (before ▹ leaf) p = leaf_keeps rules refs tight leaf (blocks_told rules refs tight before p)
+    ∙ blocks_keep rules refs tight before p
+blocks_keep rules refs tight (node before container inside) p =
+    end_keeps container (blocks_told rules refs (is_tight_inside tight container) inside
+    (start_told container (blocks_told rules refs tight before p)))
+    ∙ (blocks_keep rules refs (is_tight_inside tight container) inside (start_told container (blocks_told rules refs tight before p))
+    ∙ (start_keeps container (blocks_told rules refs tight before p) ∙ blocks_keep rules refs tight before p))
 
 -- ---- documents
 
-output_told : (table : Table) (refs : List Definition) (blocks : Blocks) (shown : List ℕ → Shown) →
-    (blocks_told table refs false blocks (begun shown None)).output ≡ output_of table [] (record { blocks = blocks; refs = refs })
+output_told : (rules : Rules) (refs : List Definition) (blocks : Blocks) (shown : List ℕ → Shown) →
+    (blocks_told rules refs false blocks (begun shown None)).output ≡ output_of rules [] (record { blocks = blocks; refs = refs })
 unfolding output_of writing_of anchors_for
-output_told table refs blocks shown = ap (λ w. w.output) (sym (blocks_at table refs false blocks (begun shown None) []))
+output_told rules refs blocks shown = ap (λ w. w.output) (sym (blocks_at rules refs false blocks (begun shown None) []))
 
-pub html_told : (table : Table) (refs : List Definition) (blocks : Blocks) (shown last : List ℕ
+pub html_told : (rules : Rules) (refs : List Definition) (blocks : Blocks) (shown last : List ℕ
     → Shown) (bytes : List ℕ) (fresh : Bool) →
-    HoldsHtml last bytes fresh (blocks_told table refs false blocks (begun shown None)) →
-    bytes ≡ html_bytes table shown [] (record { blocks = blocks; refs = refs })
+    HoldsHtml last bytes fresh (blocks_told rules refs false blocks (begun shown None)) →
+    bytes ≡ html_bytes rules shown [] (record { blocks = blocks; refs = refs })
 unfolding html_bytes
-html_told table refs blocks shown last bytes fresh h =
-    let same : last ≡ shown = sym h.shows ∙ blocks_keep table refs false blocks (begun shown None) in
+html_told rules refs blocks shown last bytes fresh h =
+    let same : last ≡ shown = sym h.shows ∙ blocks_keep rules refs false blocks (begun shown None) in
     h.spelled
-    ∙ (ap (λ s. flat_map (written_bytes s) (blocks_told table refs false blocks (begun shown None)).output) same
-    ∙ ap (flat_map (written_bytes shown)) (output_told table refs blocks shown))
+    ∙ (ap (λ s. flat_map (written_bytes s) (blocks_told rules refs false blocks (begun shown None)).output) same
+    ∙ ap (flat_map (written_bytes shown)) (output_told rules refs blocks shown))

@@ -23,27 +23,28 @@ nothing_said holds a = nothing holds a
 
 -- ---- paragraphs
 
-pub tight_paragraph : {W : Type 0} (holds : W → Progress → Type 0) (a b c : W) (tight : Bool) (made read : List Inline) → tight ≡ true
-    → made ≡ read →
-    Goes holds a b (text_met (plain_text made)) → Writes holds b c (inlines_html 0 made) →
-    Goes holds a c (λ p. paragraph_told tight (inlines_html 0 read) (text_met (plain_text read) p))
+pub tight_paragraph : {W : Type 0} (holds : W → Progress → Type 0) (a b c d : W) (tight : Bool) (front : Text) (made read : List Inline)
+    → tight ≡ true → made ≡ read →
+    Goes holds a b (text_met (plain_text made)) → Writes holds b c (characters front) → Writes holds c d (inlines_html 0 made) →
+    Goes holds a d (λ p. paragraph_told tight (characters front ++ inlines_html 0 read) (text_met (plain_text read) p))
 unfolding paragraph_told
-tight_paragraph holds a b c tight made read e f m w =
-    subst (λ t. Goes holds a c (λ p. paragraph_told t (inlines_html 0 read) (text_met (plain_text read) p))) (sym e)
-    (subst (λ i. Goes holds a c (λ p. paragraph_told true (inlines_html 0 i) (text_met (plain_text i) p))) f
-    (λ p h. w (text_met (plain_text made) p) (m p h)))
+tight_paragraph holds a b c d tight front made read e f m w1 w2 =
+    subst (λ t. Goes holds a d (λ p. paragraph_told t (characters front ++ inlines_html 0 read) (text_met (plain_text read) p))) (sym e)
+    (subst (λ i. Goes holds a d (λ p. paragraph_told true (characters front ++ inlines_html 0 i) (text_met (plain_text i) p))) f
+    (λ p h. both holds b c d (characters front) (inlines_html 0 made) w1 w2 (text_met (plain_text made) p) (m p h)))
 
-pub loose_paragraph : {W : Type 0} (holds : W → Progress → Type 0) (a b c d e f : W) (tight : Bool) (made read : List Inline)
-    → tight ≡ false → made ≡ read →
+pub loose_paragraph : {W : Type 0} (holds : W → Progress → Type 0) (a b c d e f g : W) (tight : Bool) (front : Text)
+    (made read : List Inline) → tight ≡ false → made ≡ read →
     Goes holds a b (text_met (plain_text made)) → Goes holds b c on_new_line → Writes holds c d (characters (codes "<p>"))
-    → Writes holds d e (inlines_html 0 made) →
-    Writes holds e f (characters (codes "</p>\n")) →
-    Goes holds a f (λ p. paragraph_told tight (inlines_html 0 read) (text_met (plain_text read) p))
+    → Writes holds d e (characters front) → Writes holds e f (inlines_html 0 made) →
+    Writes holds f g (characters (codes "</p>\n")) →
+    Goes holds a g (λ p. paragraph_told tight (characters front ++ inlines_html 0 read) (text_met (plain_text read) p))
 unfolding paragraph_told
-loose_paragraph holds a b c d e f tight made read t i m n w1 w2 w3 =
-    subst (λ t. Goes holds a f (λ p. paragraph_told t (inlines_html 0 read) (text_met (plain_text read) p))) (sym t)
-    (subst (λ i. Goes holds a f (λ p. paragraph_told false (inlines_html 0 i) (text_met (plain_text i) p))) i
-    (λ p h. three holds c d e f (characters (codes "<p>")) (inlines_html 0 made) (characters (codes "</p>\n")) w1 w2 w3
+loose_paragraph holds a b c d e f g tight front made read t i m n w1 w2 w3 w4 =
+    subst (λ t. Goes holds a g (λ p. paragraph_told t (characters front ++ inlines_html 0 read) (text_met (plain_text read) p))) (sym t)
+    (subst (λ i. Goes holds a g (λ p. paragraph_told false (characters front ++ inlines_html 0 i) (text_met (plain_text i) p))) i
+    (λ p h. three holds c d f g (characters (codes "<p>")) (characters front ++ inlines_html 0 made) (characters (codes "</p>\n")) w1
+    (both holds d e f (characters front) (inlines_html 0 made) w2 w3) w4
     (on_new_line (text_met (plain_text made) p)) (n (text_met (plain_text made) p) (m p h))))
 
 -- ---- headings

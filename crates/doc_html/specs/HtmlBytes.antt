@@ -4,7 +4,7 @@ use Rattle.std.specs.Char.{encode_utf8}
 use Rattle.doc_page_parts.specs.Pages.{opening_tag}
 use Rattle.doc_page_parts.specs.declared.linker.Shown.{Shown}
 use Rattle.doc_rules.specs.Characters.{Text}
-use Rattle.doc_rules.specs.Entities.{Table}
+use Rattle.doc_rules.specs.Rules.{Rules}
 use Rattle.doc_rules.specs.Blocks.{Document}
 use Rattle.doc_rules.specs.Html.{Written, Character, LinkTag, output_of}
 
@@ -14,5 +14,5 @@ written_bytes shown (Character c) = encode_utf8 c
 written_bytes shown (LinkTag target) = opening_tag (option_map encode_utf8_all target.title) (shown (encode_utf8_all target.dest))
 
 -- a document as HTML in UTF-8, its headings with these anchors
-unfoldable pub html_bytes : Table → (List ℕ → Shown) → List Text → Document → List ℕ
-html_bytes table shown anchors document = flat_map (written_bytes shown) (output_of table anchors document)
+unfoldable pub html_bytes : Rules → (List ℕ → Shown) → List Text → Document → List ℕ
+html_bytes rules shown anchors document = flat_map (written_bytes shown) (output_of rules anchors document)

@@ -1,6 +1,7 @@
 pub mod EscapeSteps
 pub mod InlineSteps
 pub mod ProgressSteps
+pub mod TableSteps
 pub mod TellingSteps
 pub mod WrittenSteps
 pub mod WrittenPageSteps

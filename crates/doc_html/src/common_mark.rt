@@ -16,8 +16,9 @@ use std::marker::Model;
 use std::sync::ledger::{Blank, Ledger};
 
 /// Makes pages of CommonMark texts (0.31.2): their HTML, in the form of the specification's examples, cut at the opening tags of
-/// links; each heading with its level, its anchor and its plain text; and the plain text of each paragraph and heading and the content
-/// of each code block. Contracts see its table of character references, how many calls were made, and what it cuts of the front of a text.
+/// links; each heading with its level, its anchor and its plain text; and the plain text of each paragraph, heading and cell of a table and
+/// the content of each code block. Contracts see its rules (character references, and extensions that are read), how many calls were made,
+/// and what it cuts of the front of a text.
 #[derive(Drop)]
 pub struct CommonMark<L: Ledger> {
     entities: Entities,
@@ -27,17 +28,17 @@ pub struct CommonMark<L: Ledger> {
 
 impl<L: Ledger> Model for CommonMark<L> {
     ghost use Rattle.std.specs.Prelude.{ℕ};
-    ghost use Rattle.doc_rules.specs.Entities.{Table};
+    ghost use Rattle.doc_rules.specs.Rules.{Rules};
     ghost use Rattle.doc_front.specs.declared.rules.FrontRules.{FrontRules};
 
-    ghost Value = { Table × ℕ × FrontRules };
+    ghost Value = { Rules × ℕ × FrontRules };
 
     ghost view = { λ r. (r.entities, r.count, r.front) };
 }
 
 impl<L: Ledger> CommonMark<L> {
-    /// A renderer that made no page yet, which knows these character references and keeps its count in a blank book of the ledger. It reads
-    /// texts as they stand.
+    /// A renderer that made no page yet, which goes by these rules and keeps its count in a blank book of the ledger. It reads texts as
+    /// they stand.
     pub fn new(entities: Entities, blank: Blank) -> Self
         requires name { blank.name ≡ L.name }
         requires parts { blank.parts ≡ L.parts }

@@ -17,6 +17,7 @@ use crate::links::{ByLinker, Links};
 use crate::reading::Source;
 use doc_blocks::Document;
 use doc_blocks_starts::tag::Tag;
+use doc_blocks_starts::texts::Texts;
 use doc_inlines_marks::arena::Arena;
 use doc_lines::entities::Entities;
 use doc_page_parts::failure::Memory;
@@ -70,11 +71,13 @@ pub(crate) fn write_html<K: Links>(
         (record { blocks = blocks; refs = definitions })) }
 {
     let arena = Arena::new(heap);
+    let texts = Texts::new(heap);
     let source = Source {
         heap,
         refs,
         entities,
         arena: &arena,
+        texts: &texts,
     };
     let mut writer = HtmlWriter::new(heap, links, room)?;
     push_all(&mut writer, &source, tags)?;

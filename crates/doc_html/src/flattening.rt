@@ -1,7 +1,8 @@
 //! The tags of trees of blocks.
-ghost use Rattle.std.specs.Prelude.{◌≡◌, ◌∷◌, List, IfOk, OnOk};
+ghost use Rattle.std.specs.Prelude.{◌≡◌, ◌∷◌, List, chars, option_map, IfOk, OnOk};
 ghost use Rattle.doc_rules.specs.Forests.{none, ◌▹◌, node};
 ghost use Rattle.doc_rules.specs.Blocks.{Blocks};
+ghost use Rattle.doc_lines.specs.RestSteps.{rest_of};
 ghost use Rattle.doc_blocks_starts.specs.Tags.{container_shown, leaf_shown, tags_of, tags_shown};
 ghost use Rattle.doc_blocks_starts.specs.OpenTags.{Entry, open_tags};
 ghost use Rattle.doc_blocks.specs.Views.{behind, blocks_shown, forest};
@@ -10,6 +11,7 @@ use doc_blocks::Block;
 use doc_blocks_starts::tag::{ContainerBlock, LeafBlock, Tag};
 use doc_page_parts::failure::Memory;
 use doc_page_parts::heap::{Heap, Vec};
+use doc_page_parts::text::Text;
 
 /// The tags of blocks.
 pub(crate) fn tags_of<'d>(heap: Heap, blocks: &'d [Block]) -> Result<Vec<Tag<'d>>, Memory>
@@ -59,6 +61,25 @@ fn push_block<'d>(tags: &mut Vec<Tag<'d>>, block: &'d Block) -> Result<(), Memor
         ),
         Block::Html(text) => push_leaf(tags, LeafBlock::Html(text.get())),
         Block::Break => push_leaf(tags, LeafBlock::Break),
+        Block::Table {
+            header,
+            delimiters,
+            rows,
+        } => push_leaf(
+            tags,
+            LeafBlock::Table {
+                header: header.get(),
+                delimiters: delimiters.get(),
+                rows: rows_of(rows),
+            },
+        ),
+        Block::Task { done, text } => push_leaf(
+            tags,
+            LeafBlock::Task {
+                done: *done,
+                text: text.get(),
+            },
+        ),
         Block::Quote(inside) => push_container(tags, ContainerBlock::Quote, inside),
         Block::List {
             start,
@@ -73,6 +94,16 @@ fn push_block<'d>(tags: &mut Vec<Tag<'d>>, block: &'d Block) -> Result<(), Memor
             items,
         ),
         Block::Item(inside) => push_container(tags, ContainerBlock::Item, inside),
+    }
+}
+
+/// The lines behind a delimiter row, if there are any.
+fn rows_of(rows: &Option<Text>) -> Option<&str>
+    ensures { rest_of result ≡ option_map chars rows.now }
+{
+    match rows {
+        Some(rows) => Some(rows.get()),
+        None => None,
     }
 }
 

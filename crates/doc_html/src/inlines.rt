@@ -1,4 +1,4 @@
-//! Inlines as HTML (CommonMark 0.31.2, section 6).
+//! Inlines as HTML (CommonMark 0.31.2, section 6; strikethrough: GitHub Flavored Markdown 0.29, section 6.5).
 ghost use Rattle.std.specs.Prelude.{◌≡◌, ◌<◌, ◌+◌, ◌^◌, [], ◌∷◌, ◌++◌, true, chars, option_map, IfOk, OnOk};
 ghost use Rattle.doc_rules.specs.Escaping.{html_escape};
 ghost use Rattle.doc_rules.specs.Inlines as rules;
@@ -168,6 +168,7 @@ fn push_start<W: Writer>(writer: &mut W, heap: Heap, span: &SpanRef) -> Result<(
     match span {
         SpanRef::Emphasis => markup(writer, "<em>"),
         SpanRef::Strong => markup(writer, "<strong>"),
+        SpanRef::Strike => markup(writer, "<del>"),
         SpanRef::Link(target) => writer.link(**target),
         SpanRef::Image(target) => push_image_start(writer, heap, **target),
     }
@@ -195,6 +196,7 @@ fn push_end<W: Writer>(writer: &mut W, heap: Heap, span: &SpanRef) -> Result<(),
     match span {
         SpanRef::Emphasis => markup(writer, "</em>"),
         SpanRef::Strong => markup(writer, "</strong>"),
+        SpanRef::Strike => markup(writer, "</del>"),
         SpanRef::Link(_) => markup(writer, "</a>"),
         SpanRef::Image(target) => push_image_end(writer, heap, **target),
     }

@@ -1,18 +1,20 @@
-//! Leaf blocks as HTML (CommonMark 0.31.2, section 4).
-ghost use Rattle.std.specs.Prelude.{◌≡◌, ℕ, [], ◌∷◌, ◌++◌, List, chars, codes, decimal, Bool, not, OnOk};
-ghost use Rattle.doc_rules.specs.Blocks.{Paragraph, Heading, IndentedCode, FencedCode, HtmlBlock, ThematicBreak};
+//! Leaf blocks as HTML (CommonMark 0.31.2, section 4; tasks: GitHub Flavored Markdown 0.29, section 5.3).
+ghost use Rattle.std.specs.Prelude.{◌≡◌, ℕ, [], ◌∷◌, ◌++◌, List, chars, codes, decimal, Bool, true, not, OnOk};
+ghost use Rattle.doc_rules.specs.Blocks.{Heading, IndentedCode, FencedCode, HtmlBlock, ThematicBreak};
 ghost use Rattle.doc_rules.specs.Characters.{is_space_or_tab, strip_front};
 ghost use Rattle.doc_rules.specs.Definitions.{Definition};
-ghost use Rattle.doc_rules.specs.Entities.{Table};
+ghost use Rattle.doc_rules.specs.Rules.{Rules};
 ghost use Rattle.doc_rules.specs.Escaping.{html_escape};
-ghost use Rattle.doc_rules.specs.Html.{characters, class_attribute, first_word, language_class};
+ghost use Rattle.doc_rules.specs.Html.{characters, class_attribute, first_word, language_class, task_box};
 ghost use Rattle.doc_refs_parts.specs.Targets.{targets_of};
 ghost use Rattle.doc_blocks_starts.specs.Tags.{leaf_shown};
 ghost use Rattle.doc_html.specs.ProgressSteps.{Goes, Writes};
-ghost use Rattle.doc_html.specs.TellingSteps.{leaf_told, code_told};
+ghost use Rattle.doc_html.specs.InlineSteps.{is_ascii};
+ghost use Rattle.doc_html.specs.TellingSteps.{leaf_told, code_told, text_told};
 
 use crate::inlines::push_marks;
 use crate::reading::Source;
+use crate::tables::push_table;
 use crate::writer::{Writer, markup};
 use doc_blocks_starts::tag::LeafBlock;
 use doc_inlines::Reader;
@@ -37,36 +39,61 @@ pub(crate) fn push_leaf<'d, W: Writer>(
         (leaf_told source.now.entities.now definitions tight (leaf_shown leaf.entry))) }
 {
     match leaf {
-        LeafBlock::Para(text) => push_paragraph(writer, source, reader, text, tight),
+        LeafBlock::Para(text) => push_paragraph(writer, source, reader, "", text, tight),
         LeafBlock::Heading { level, text } => push_heading(writer, source, reader, level, text),
         LeafBlock::Code(text) => push_indented(writer, text),
         LeafBlock::Fence { info, text } => push_fenced(writer, info, text),
         LeafBlock::Html(text) => push_html_block(writer, text),
         LeafBlock::Break => push_break(writer),
+        LeafBlock::Table {
+            header,
+            delimiters,
+            rows,
+        } => push_table(writer, source, reader, header, delimiters, rows),
+        LeafBlock::Task { done, text } => {
+            push_paragraph(writer, source, reader, task_box(done), text, tight)
+        }
     }
 }
 
-/// Writes a paragraph. Directly in an item of a tight list it is its inlines alone (section 5.3).
+/// The box before the text of a task (GitHub Flavored Markdown 0.29, section 5.3).
+#[tactic(auto, unfolding(doc_rules::specs::Html::task_box))]
+fn task_box(done: bool) -> &'static str
+    ensures value { result.now ≡ task_box done }
+    ensures ascii { is_ascii result.now ≡ true }
+{
+    if done {
+        "<input type=\"checkbox\" checked=\"\" disabled=\"\" /> "
+    } else {
+        "<input type=\"checkbox\" disabled=\"\" /> "
+    }
+}
+
+/// Writes a paragraph, and this before its text. Directly in an item of a tight list that is all of it (section 5.3).
 fn push_paragraph<'d, W: Writer>(
     writer: &mut W,
     source: &Source<'d>,
     reader: &mut Reader<'d, 'd>,
+    front: &str,
     text: &'d str,
     tight: bool,
 ) -> Result<(), Memory>
+    requires { is_ascii front.now ≡ true }
     ensures { (definitions : List Definition) → source.now.refs.now ≡ targets_of definitions →
         OnOk result (Goes W.holds writer.old writer.new
-        (leaf_told source.now.entities.now definitions tight (Paragraph (chars text.now)))) }
+        (text_told source.now.entities.now definitions tight front.now (chars text.now))) }
 {
     reader.read(source.heap, source.entities, source.refs, text)?;
     let marks = reader.marks();
     writer.meet_paragraph(marks)?;
     if tight {
+        markup(writer, front)?;
         push_marks(writer, source.heap, marks)?;
         return Ok(());
     }
     writer.new_line()?;
     markup(writer, "<p>")?;
+    markup(writer, front)?;
     push_marks(writer, source.heap, marks)?;
     markup(writer, "</p>\n")?;
     Ok(())
@@ -188,9 +215,9 @@ fn is_in_word(c: char) -> bool
 
 /// Writes an HTML block.
 fn push_html_block<W: Writer>(writer: &mut W, text: &str) -> Result<(), Memory>
-    ensures { (table : Table) (definitions : List Definition) (tight : Bool) →
+    ensures { (rules : Rules) (definitions : List Definition) (tight : Bool) →
         OnOk result (Goes W.holds writer.old writer.new
-        (leaf_told table definitions tight (HtmlBlock (chars text.now)))) }
+        (leaf_told rules definitions tight (HtmlBlock (chars text.now)))) }
 {
     writer.new_line()?;
     writer.text(text)?;
@@ -200,9 +227,9 @@ fn push_html_block<W: Writer>(writer: &mut W, text: &str) -> Result<(), Memory>
 
 /// Writes a thematic break.
 fn push_break<W: Writer>(writer: &mut W) -> Result<(), Memory>
-    ensures { (table : Table) (definitions : List Definition) (tight : Bool) →
+    ensures { (rules : Rules) (definitions : List Definition) (tight : Bool) →
         OnOk result (Goes W.holds writer.old writer.new
-        (leaf_told table definitions tight ThematicBreak)) }
+        (leaf_told rules definitions tight ThematicBreak)) }
 {
     writer.new_line()?;
     markup(writer, "<hr />\n")?;

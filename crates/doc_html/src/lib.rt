@@ -22,6 +22,7 @@ mod plain_linker;
 mod plain_text;
 mod reading;
 mod rendering;
+mod tables;
 mod writer;
 
 pub use common_mark::CommonMark;

@@ -42,11 +42,13 @@ fn page_of_tags(
         (document_page entities.now (record { blocks = blocks; refs = definitions }))) }
 {
     let arena = Arena::new(heap);
+    let texts = Texts::new(heap);
     let source = Source {
         heap,
         refs,
         entities,
         arena: &arena,
+        texts: &texts,
     };
     let mut writer = PageWriter::new(heap);
     push_all(&mut writer, &source, tags)?;

@@ -39,7 +39,7 @@ pub(crate) trait Writer {
     fn meet_text(&mut self, text: &str) -> Result<(), Memory>
         ensures { OnOk result (Goes holds self.old self.new (text_met (chars text.now))) };
 
-    /// A paragraph with these inlines is met.
+    /// A paragraph or a cell of a table with these inlines is met.
     fn meet_paragraph(&mut self, marks: &[MarkRef]) -> Result<(), Memory>
         ensures { OnOk result (Goes holds self.old self.new
             (text_met (plain_text (inlines_shown marks.now)))) };

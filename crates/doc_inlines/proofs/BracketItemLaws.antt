@@ -5,7 +5,7 @@ use denote.Ref.{Bor}
 use Rattle.std.proofs.lemmas.Bool.{eqb-true}
 use Rattle.doc_rules.specs.Characters.{Text}
 use Rattle.doc_rules.specs.Parsers.{before, is}
-use Rattle.doc_rules.specs.Entities.{Table}
+use Rattle.doc_rules.specs.Rules.{Rules}
 use Rattle.doc_rules.specs.Definitions.{Definition}
 use Rattle.doc_rules.specs.Destinations.{Target}
 use Rattle.doc_rules.specs.Inlines.{Inline, Literal, Open, literals, onto, bracket_text}
@@ -76,18 +76,18 @@ opened_behind old rest next brackets those e g a h =
 
 -- ---- what a '[' and a '!' make
 
-left_reads : (table : Table) (refs : List Definition) (last : ℕ) (made : List Inline) (more : Text)
-    → read_item table refs last made 91 more ≡ (Open (record { image = false; live = true; behind = more }) ∷ made, 0)
+left_reads : (rules : Rules) (refs : List Definition) (last : ℕ) (made : List Inline) (more : Text)
+    → read_item rules refs last made 91 more ≡ (Open (record { image = false; live = true; behind = more }) ∷ made, 0)
 unfolding read_item item_of_kind kind_in kinds
-left_reads table refs last made more = refl
+left_reads rules refs last made more = refl
 
-pub left_goes_on : (table : Table) (targets : Targets) (old new : Reader) (more : Text) → IsReader old → IsReader new → new.text ≡ old.text
+pub left_goes_on : (rules : Rules) (targets : Targets) (old new : Reader) (more : Text) → IsReader old → IsReader new → new.text ≡ old.text
     → chars new.rest.now ≡ more → chars old.rest.now ≡ 91 ∷ more →
-    state_made new ≡ Open (record { image = false; live = true; behind = more }) ∷ state_made old → GoesOn table targets old new
-left_goes_on table targets old new more o n t r e m =
-    goes_on table targets old new 91 more more (Open (record { image = false; live = true; behind = more }) ∷ state_made old) o n t r e
+    state_made new ≡ Open (record { image = false; live = true; behind = more }) ∷ state_made old → GoesOn rules targets old new
+left_goes_on rules targets old new more o n t r e m =
+    goes_on rules targets old new 91 more more (Open (record { image = false; live = true; behind = more }) ∷ state_made old) o n t r e
     (all_behind more)
-    (λ definitions f. left_reads table definitions _ (state_made old) more
+    (λ definitions f. left_reads rules definitions _ (state_made old) more
     ∙ ap (λ k. (Open (record { image = false; live = true; behind = more }) ∷ state_made old, k)) (sym (nothing_taken more))) m
 
 pub is_there : (c : ℕ) (text after : Text) → Some after ≡ is c text → text ≡ c ∷ after
@@ -98,10 +98,10 @@ is_there c (d ∷ text) after e = at (d == c) refl e
     at true f g = let same : d ≡ c = eqb-true d c f in cc
     at false f g = absurd cc
 
-bang_reads : (table : Table) (refs : List Definition) (last : ℕ) (made : List Inline) (after : Text) →
-    read_item table refs last made 33 (91 ∷ after) ≡ (Open (record { image = true; live = true; behind = after }) ∷ made, 1)
+bang_reads : (rules : Rules) (refs : List Definition) (last : ℕ) (made : List Inline) (after : Text) →
+    read_item rules refs last made 33 (91 ∷ after) ≡ (Open (record { image = true; live = true; behind = after }) ∷ made, 1)
 unfolding read_item item_of_kind kind_in kinds bang
-bang_reads table refs last made after = refl
+bang_reads rules refs last made after = refl
 
 abbrev there : Bool → Text → Option Text
 there b text = elim b [ true ↦ Some text | false ↦ None ]
@@ -113,11 +113,11 @@ banged b made text = elim b [
       (Literal 33 ∷ made, 0)
 ]
 
-bang_alone : (table : Table) (refs : List Definition) (last : ℕ) (made : List Inline) (more : Text) → None ≡ is 91 more
-    → read_item table refs last made 33 more ≡ (Literal 33 ∷ made, 0)
+bang_alone : (rules : Rules) (refs : List Definition) (last : ℕ) (made : List Inline) (more : Text) → None ≡ is 91 more
+    → read_item rules refs last made 33 more ≡ (Literal 33 ∷ made, 0)
 unfolding read_item item_of_kind kind_in kinds bang
-bang_alone table refs last made [] e = refl
-bang_alone table refs last made (d ∷ more) e = at (d == 91) e
+bang_alone rules refs last made [] e = refl
+bang_alone rules refs last made (d ∷ more) e = at (d == 91) e
   where
     at : (b : Bool) → None ≡ there b more → banged b made more ≡ (Literal 33 ∷ made, 0)
     at true f = absurd cc
@@ -129,17 +129,17 @@ bang_first rest more after e f = e ∙ ap (λ t. 33 ∷ t) (is_there 91 more aft
 one_taken : (c : ℕ) (more after : Text) → more ≡ c ∷ after → length more - length after ≡ 1
 one_taken c more after e = let n : length more ≡ length (c ∷ after) = ap length e in omega arith
 
-pub bang_goes_on : (table : Table) (targets : Targets) (old new : Reader) (more after : Text) → IsReader old → IsReader new
+pub bang_goes_on : (rules : Rules) (targets : Targets) (old new : Reader) (more after : Text) → IsReader old → IsReader new
     → new.text ≡ old.text → chars new.rest.now ≡ after → chars old.rest.now ≡ 33 ∷ more →
     Some after ≡ is 91 more → state_made new ≡ Open (record { image = true; live = true; behind = after }) ∷ state_made old
-    → GoesOn table targets old new
-bang_goes_on table targets old new more after o n t r e f m =
+    → GoesOn rules targets old new
+bang_goes_on rules targets old new more after o n t r e f m =
     let own : more ≡ 91 ∷ after = is_there 91 more after f in
-    goes_on table targets old new 33 more after (Open (record { image = true; live = true; behind = after }) ∷ state_made old) o n t r e
+    goes_on rules targets old new 33 more after (Open (record { image = true; live = true; behind = after }) ∷ state_made old) o n t r e
     (record { front = 91 ∷ []; split = own })
     (λ definitions g.
-    ap (read_item table definitions _ (state_made old) 33) own
-    ∙ (bang_reads table definitions _ (state_made old) after
+    ap (read_item rules definitions _ (state_made old) 33) own
+    ∙ (bang_reads rules definitions _ (state_made old) after
     ∙ ap (λ k. (Open (record { image = true; live = true; behind = after }) ∷ state_made old, k)) (sym (one_taken 91 more after own)))) m
 
 -- a character that is passed
@@ -147,12 +147,12 @@ pub passed_one : (c : ℕ) (more rest : Text) (made new : List Inline) → rest 
     → new ≡ Literal c ∷ made
 passed_one c more rest made new e f = f ∙ ap (λ t. onto (literals t) made) (ap (before more) e ∙ before_is (c ∷ []) more)
 
-pub bang_passed : (table : Table) (targets : Targets) (old new : Reader) (more : Text) → IsReader old → IsReader new → new.text ≡ old.text
+pub bang_passed : (rules : Rules) (targets : Targets) (old new : Reader) (more : Text) → IsReader old → IsReader new → new.text ≡ old.text
     → chars new.rest.now ≡ more → chars old.rest.now ≡ 33 ∷ more →
-    None ≡ is 91 more → state_made new ≡ onto (literals (before more (chars old.rest.now))) (state_made old) → GoesOn table targets old new
-bang_passed table targets old new more o n t r e f m =
-    goes_on table targets old new 33 more more (Literal 33 ∷ state_made old) o n t r e (all_behind more)
-    (λ definitions g. bang_alone table definitions _ (state_made old) more f
+    None ≡ is 91 more → state_made new ≡ onto (literals (before more (chars old.rest.now))) (state_made old) → GoesOn rules targets old new
+bang_passed rules targets old new more o n t r e f m =
+    goes_on rules targets old new 33 more more (Literal 33 ∷ state_made old) o n t r e (all_behind more)
+    (λ definitions g. bang_alone rules definitions _ (state_made old) more f
     ∙ ap (λ k. (Literal 33 ∷ state_made old, k)) (sym (nothing_taken more)))
     (passed_one 33 more (chars old.rest.now) (state_made old) (state_made new) e m)
 
@@ -298,9 +298,9 @@ abbrev closed_by : Tail → LastBracket → Text → List Inline × ℕ
 closed_by None last rest = (unlinked last, 0)
 closed_by (Some found) last rest = (linked last found.0, length rest - length found.1)
 
-abbrev closed_at : Table → List Definition → List Inline → Text → Option LastBracket → List Inline × ℕ
-closed_at table refs made rest None = (Literal 93 ∷ made, 0)
-closed_at table refs made rest (Some last) = closed_by (tail_where last.bracket.live table refs (before (93 ∷ rest) last.bracket.behind)
+abbrev closed_at : Rules → List Definition → List Inline → Text → Option LastBracket → List Inline × ℕ
+closed_at rules refs made rest None = (Literal 93 ∷ made, 0)
+closed_at rules refs made rest (Some last) = closed_by (tail_where last.bracket.live rules refs (before (93 ∷ rest) last.bracket.behind)
     rest) last rest
 
 by_tail : (last : LastBracket) (rest : Text) (live : Bool) (tail : Tail) →
@@ -314,81 +314,81 @@ by_tail last rest false tail = refl
 by_tail last rest true None = refl
 by_tail last rest true (Some found) = refl
 
-closes : (table : Table) (refs : List Definition) (made : List Inline) (rest : Text)
-    → close_bracket table refs made rest ≡ closed_at table refs made rest (last_bracket [] made)
+closes : (rules : Rules) (refs : List Definition) (made : List Inline) (rest : Text)
+    → close_bracket rules refs made rest ≡ closed_at rules refs made rest (last_bracket [] made)
 unfolding close_bracket
-closes table refs made rest = at (last_bracket [] made)
+closes rules refs made rest = at (last_bracket [] made)
   where
     at : (found : Option LastBracket) →
         (elim found [
           | None ↦ (Literal 93 ∷ made, 0)
           | Some last ↦ elim last.bracket.live [
             | false ↦ (unlinked last, 0)
-            | true ↦ elim (link_tail table refs (before (93 ∷ rest) last.bracket.behind) rest)
+            | true ↦ elim (link_tail rules refs (before (93 ∷ rest) last.bracket.behind) rest)
                 [ None ↦ (unlinked last, 0) | Some found ↦ (linked last found.0, length rest - length found.1) ]
           ]
         ])
-        ≡ closed_at table refs made rest found
+        ≡ closed_at rules refs made rest found
     at None = refl
-    at (Some last) = by_tail last rest last.bracket.live (link_tail table refs (before (93 ∷ rest) last.bracket.behind) rest)
+    at (Some last) = by_tail last rest last.bracket.live (link_tail rules refs (before (93 ∷ rest) last.bracket.behind) rest)
 
-right_reads : (table : Table) (refs : List Definition) (last : ℕ) (made : List Inline) (more : Text) (found : Option LastBracket)
+right_reads : (rules : Rules) (refs : List Definition) (last : ℕ) (made : List Inline) (more : Text) (found : Option LastBracket)
     → last_bracket [] made ≡ found →
-    read_item table refs last made 93 more ≡ closed_at table refs made more found
+    read_item rules refs last made 93 more ≡ closed_at rules refs made more found
 unfolding read_item item_of_kind kind_in kinds
-right_reads table refs last made more found e = closes table refs made more ∙ ap (closed_at table refs made more) e
+right_reads rules refs last made more found e = closes rules refs made more ∙ ap (closed_at rules refs made more) e
 
-pub stray_goes_on : (table : Table) (targets : Targets) (old same new : Reader) (more : Text) → HasNoBracket old same → IsReader old
+pub stray_goes_on : (rules : Rules) (targets : Targets) (old same new : Reader) (more : Text) → HasNoBracket old same → IsReader old
     → IsReader new → new.text ≡ same.text → chars new.rest.now ≡ more → chars old.rest.now ≡ 93 ∷ more →
-    state_made new ≡ onto (literals (before more (chars same.rest.now))) (state_made same) → GoesOn table targets old new
-stray_goes_on table targets old same new more h o n t r e m =
-    goes_on table targets old new 93 more more (Literal 93 ∷ state_made old) o n (t ∙ ap (λ x. x.text) h.same) r e (all_behind more)
-    (λ definitions f. right_reads table definitions _ (state_made old) more None h.none
+    state_made new ≡ onto (literals (before more (chars same.rest.now))) (state_made same) → GoesOn rules targets old new
+stray_goes_on rules targets old same new more h o n t r e m =
+    goes_on rules targets old new 93 more more (Literal 93 ∷ state_made old) o n (t ∙ ap (λ x. x.text) h.same) r e (all_behind more)
+    (λ definitions f. right_reads rules definitions _ (state_made old) more None h.none
     ∙ ap (λ k. (Literal 93 ∷ state_made old, k)) (sym (nothing_taken more)))
     (passed_one 93 more (chars old.rest.now) (state_made old) (state_made new) e (m
     ∙ ap (λ x. onto (literals (before more (chars x.rest.now))) (state_made x)) h.same))
 
 -- what the tail is to the rules
-tail_at : (table : Table) (refs : List Definition) (old taken : Reader) (b : Bracket) (live : Bool) (more : Text) (tail : Tail)
+tail_at : (rules : Rules) (refs : List Definition) (old taken : Reader) (b : Bracket) (live : Bool) (more : Text) (tail : Tail)
     → IsTaken old taken b live → chars old.rest.now ≡ 93 ∷ more →
-    tail ≡ tail_where live table refs (before (chars taken.rest.now) (chars b.behind.now)) more
-    → tail ≡ tail_where live table refs (before (93 ∷ more) (chars b.behind.now)) more
-tail_at table refs old taken b live more tail h e f =
-    f ∙ ap (λ rest. tail_where live table refs (before rest (chars b.behind.now)) more) (ap (λ t. chars t.now) h.rest ∙ e)
+    tail ≡ tail_where live rules refs (before (chars taken.rest.now) (chars b.behind.now)) more
+    → tail ≡ tail_where live rules refs (before (93 ∷ more) (chars b.behind.now)) more
+tail_at rules refs old taken b live more tail h e f =
+    f ∙ ap (λ rest. tail_where live rules refs (before rest (chars b.behind.now)) more) (ap (λ t. chars t.now) h.rest ∙ e)
 
 unlinked_made : (old taken : Reader) (b : Bracket) (live : Bool) → IsTaken old taken b live
     → Literal 93 ∷ state_made taken ≡ unlinked (last_of taken.draft b live)
 unfolding unlinked bracket_text
 unlinked_made old taken b live h = ap (λ t. Literal 93 ∷ t) h.made
 
-pub unlinked_goes_on : (table : Table) (targets : Targets) (old taken new : Reader) (b : Bracket) (live : Bool) (more : Text)
+pub unlinked_goes_on : (rules : Rules) (targets : Targets) (old taken new : Reader) (b : Bracket) (live : Bool) (more : Text)
     → IsTaken old taken b live → IsReader old → IsReader new → new.text ≡ taken.text →
     chars new.rest.now ≡ more → chars old.rest.now ≡ 93 ∷ more →
     ((definitions : List Definition) → targets ≡ targets_of definitions
-    → None ≡ tail_where live table definitions (before (chars taken.rest.now) (chars b.behind.now)) more) →
-    state_made new ≡ onto (literals (before more (chars taken.rest.now))) (state_made taken) → GoesOn table targets old new
-unlinked_goes_on table targets old taken new b live more h o n t r e tail m =
-    goes_on table targets old new 93 more more (unlinked (last_of taken.draft b live)) o n (t ∙ h.text) r e (all_behind more)
+    → None ≡ tail_where live rules definitions (before (chars taken.rest.now) (chars b.behind.now)) more) →
+    state_made new ≡ onto (literals (before more (chars taken.rest.now))) (state_made taken) → GoesOn rules targets old new
+unlinked_goes_on rules targets old taken new b live more h o n t r e tail m =
+    goes_on rules targets old new 93 more more (unlinked (last_of taken.draft b live)) o n (t ∙ h.text) r e (all_behind more)
     (λ definitions f.
-    right_reads table definitions _ (state_made old) more (Some (last_of taken.draft b live)) h.last
+    right_reads rules definitions _ (state_made old) more (Some (last_of taken.draft b live)) h.last
     ∙ (ap (λ found. closed_by found (last_of taken.draft b live) more)
-    (sym (tail_at table definitions old taken b live more None h e (tail definitions f)))
+    (sym (tail_at rules definitions old taken b live more None h e (tail definitions f)))
     ∙ ap (λ k. (unlinked (last_of taken.draft b live), k)) (sym (nothing_taken more))))
     (passed_one 93 more (chars taken.rest.now) (state_made taken) (state_made new) (ap (λ t. chars t.now) h.rest ∙ e) m
     ∙ unlinked_made old taken b live h)
 
-pub linked_goes_on : (table : Table) (targets : Targets) (old taken new : Reader) (b : Bracket) (live : Bool) (more after : Text)
+pub linked_goes_on : (rules : Rules) (targets : Targets) (old taken new : Reader) (b : Bracket) (live : Bool) (more after : Text)
     (target : Target) → IsTaken old taken b live → IsReader old → IsReader new → new.text ≡ taken.text →
     chars new.rest.now ≡ after → chars old.rest.now ≡ 93 ∷ more → IsRest after more →
     ((definitions : List Definition) → targets ≡ targets_of definitions
-    → Some (target, after) ≡ tail_where live table definitions (before (chars taken.rest.now) (chars b.behind.now)) more) →
-    state_made new ≡ linked (last_of taken.draft b live) target → GoesOn table targets old new
-linked_goes_on table targets old taken new b live more after target h o n t r e g tail m =
-    goes_on table targets old new 93 more after (linked (last_of taken.draft b live) target) o n (t ∙ h.text) r e g
+    → Some (target, after) ≡ tail_where live rules definitions (before (chars taken.rest.now) (chars b.behind.now)) more) →
+    state_made new ≡ linked (last_of taken.draft b live) target → GoesOn rules targets old new
+linked_goes_on rules targets old taken new b live more after target h o n t r e g tail m =
+    goes_on rules targets old new 93 more after (linked (last_of taken.draft b live) target) o n (t ∙ h.text) r e g
     (λ definitions f.
-    right_reads table definitions _ (state_made old) more (Some (last_of taken.draft b live)) h.last
+    right_reads rules definitions _ (state_made old) more (Some (last_of taken.draft b live)) h.last
     ∙ ap (λ found. closed_by found (last_of taken.draft b live) more)
-    (sym (tail_at table definitions old taken b live more (Some (target, after)) h e (tail definitions f))))
+    (sym (tail_at rules definitions old taken b live more (Some (target, after)) h e (tail definitions f))))
     m
 
 -- what stands in an option

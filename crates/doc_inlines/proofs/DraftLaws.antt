@@ -17,6 +17,7 @@ use Rattle.doc_inlines_marks.specs.declared.mark_ref.MarkRef.TheVariants as mark
 use Rattle.doc_inlines_marks.specs.Views.{inlines_in}
 use Rattle.doc_inlines_emphasis.specs.Views.{marks_shown}
 use Rattle.doc_inlines_emphasis.specs.RunSteps.{delimiter}
+use Rattle.doc_inlines_emphasis.specs.declared.delimiter.Delimiter.{Delimiter}
 use Rattle.doc_inlines_emphasis.specs.Texts.{IsRunText, AreEach, AddsEach, fresh_run}
 use Rattle.doc_inlines.specs.declared.bracket.Bracket.{Bracket}
 use Rattle.doc_inlines.specs.MadeSteps.{text_of_bracket, made_below, AreBrackets}
@@ -115,8 +116,8 @@ each_length [] (c ∷ text) h = absurd h
 each_length (m ∷ added) [] h = absurd h
 each_length (m ∷ added) (c ∷ text) h = ap (λ n. suc n) (each_length added text h.1)
 
-pub run_of : (text : Text) → (r : IsRunText text) → IsRunOf r.more (delimiter r.star) text
-run_of text r = record { same = r.is }
+pub run_of : (own : Delimiter) (text : Text) → (r : IsRunText own text) → IsRunOf r.more (delimiter own) text
+run_of own text r = record { same = r.is }
 
 run_end : (items next : List MarkRef) (n c : ℕ) (text : Text) → IsRunOf n c text → AddsEach items next text
     → length next ≡ length items + suc n

@@ -10,7 +10,7 @@ use Rattle.doc_rules.specs.Characters.{Text}
 use Rattle.doc_rules.specs.Parsers.{one, is, word, many, ◌then◌, ◌or◌, maybe, repeated, through, spacing, before}
 use Rattle.doc_rules.specs.Tags.{tag_name, attribute, open_tag, closing_tag, html_tag, comment, instruction, declaration, cdata, raw_html}
 use Rattle.doc_rules.specs.Autolinks.{uri, mail}
-use Rattle.doc_rules.specs.Entities.{Table}
+use Rattle.doc_rules.specs.Rules.{Rules}
 use Rattle.doc_rules.specs.Definitions.{Definition}
 use Rattle.doc_rules.specs.Inlines.{Inline, Literal, literals, onto}
 use Rattle.doc_rules.specs.Inlines as inline
@@ -90,7 +90,7 @@ in_front : (n : ℕ) (x : Inline) (made : List Inline) → replicate n x ++ (x �
 in_front zero x made = refl
 in_front (suc n) x made = ap (λ those. x ∷ those) (in_front n x made)
 
-run_onto : (n c : ℕ) (made : List Inline) → onto (literals (replicate n c)) made ≡ replicate n (Literal c) ++ made
+pub run_onto : (n c : ℕ) (made : List Inline) → onto (literals (replicate n c)) made ≡ replicate n (Literal c) ++ made
 run_onto zero c made = refl
 run_onto (suc n) c made = onto_both (Literal c ∷ []) (literals (replicate n c)) made
     ∙ (run_onto n c (Literal c ∷ made) ∙ in_front n (Literal c) made)
@@ -117,11 +117,11 @@ run_found found next answer e h = ap (λ f. code_found (f, next)) (sym e) ∙ h
 
 -- ---- what the rules make behind a backtick
 
-pub backtick_reads : (table : Table) (refs : List Definition) (last : ℕ) (made : List Inline) (more : Text) (found : Option Text × Text)
+pub backtick_reads : (rules : Rules) (refs : List Definition) (last : ℕ) (made : List Inline) (more : Text) (found : Option Text × Text)
     → found ≡ code_span_at more →
-    read_item table refs last made 96 more ≡ code_read made more found
+    read_item rules refs last made 96 more ≡ code_read made more found
 unfolding read_item kind_in kinds item_of_kind
-backtick_reads table refs last made more found e = code_span_reads made more ∙ ap (code_read made more) (sym e)
+backtick_reads rules refs last made more found e = code_span_reads made more ∙ ap (code_read made more) (sym e)
 
 -- ---- a mark whose slice stands in front of the rest
 
@@ -405,11 +405,11 @@ enclosed_end more after those e = at ((uri then is 62) more) refl e
 
 -- ---- what the rules make behind a '<'
 
-pub angle_reads : (table : Table) (refs : List Definition) (last : ℕ) (made : List Inline) (more : Text)
+pub angle_reads : (rules : Rules) (refs : List Definition) (last : ℕ) (made : List Inline) (more : Text)
     (found : Option (Enclosing × Text)) → found ≡ enclosed_at (60 ∷ more) →
-    read_item table refs last made 60 more ≡ angle_read made more found
+    read_item rules refs last made 60 more ≡ angle_read made more found
 unfolding read_item kind_in kinds item_of_kind
-angle_reads table refs last made more found e = left_angle_reads made more ∙ ap (angle_read made more) (sym e)
+angle_reads rules refs last made more found e = left_angle_reads made more ∙ ap (angle_read made more) (sym e)
 
 pub learned_ends : (old : Reader) (learned : MissingEnds) → IsReader old → TellsOfEnds learned (chars old.text.now)
     → IsReader (record old { missing = learned })
@@ -429,7 +429,7 @@ pub angle_found : (rest more : Text) (found : Option (Enclosing × Text)) → re
     → found ≡ enclosed_at (60 ∷ more)
 angle_found rest more found r h = h ∙ ap enclosed_at r
 
-pub moved_on : (table : Table) (targets : Targets) (old new : Reader) (learned : MissingEnds)
-    → GoesOn table targets (record old { missing = learned }) new → GoesOn table targets old new
+pub moved_on : (rules : Rules) (targets : Targets) (old new : Reader) (learned : MissingEnds)
+    → GoesOn rules targets (record old { missing = learned }) new → GoesOn rules targets old new
 unfolding outcome
-moved_on table targets old new learned h = record { sound = h.sound; text = h.text; reads = h.reads; shorter = h.shorter }
+moved_on rules targets old new learned h = record { sound = h.sound; text = h.text; reads = h.reads; shorter = h.shorter }

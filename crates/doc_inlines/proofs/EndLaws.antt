@@ -2,7 +2,7 @@
 use Rattle.std.proofs.Common.{◌≡◌, chars, List, [], ◌++◌, reverse, ap, ap₂, sym, ◌∙◌, subst, append-nil}
 use Rattle.doc_rules.specs.Characters.{Text, last_or}
 use Rattle.doc_rules.specs.Parsers.{before}
-use Rattle.doc_rules.specs.Entities.{Table}
+use Rattle.doc_rules.specs.Rules.{Rules}
 use Rattle.doc_rules.specs.Definitions.{Definition}
 use Rattle.doc_rules.specs.Inlines.{Inline}
 use Rattle.doc_rules.specs.Emphasis.{emphasis_of}
@@ -18,34 +18,34 @@ use Rattle.doc_inlines.specs.ReaderSteps.{state_made, made_before, outcome}
 use Rattle.doc_inlines.proofs.ReaderLaws.{before_all, nothing_pending}
 use Rattle.doc_inlines.proofs.SliceLaws.{slices_both}
 
-reading_nothing : (table : Table) (refs : List Definition) (behind : Text) (made : List Inline) (rest : Text) → rest ≡ []
-    → reading table refs behind made rest ≡ made
+reading_nothing : (rules : Rules) (refs : List Definition) (behind : Text) (made : List Inline) (rest : Text) → rest ≡ []
+    → reading rules refs behind made rest ≡ made
 unfolding read
-reading_nothing table refs behind made rest e = ap (reading table refs behind made) e
+reading_nothing rules refs behind made rest e = ap (reading rules refs behind made) e
 
-ends_at : (table : Table) (refs : List Definition) (r : Reader) → chars r.rest.now ≡ [] → outcome table refs r ≡ state_made r
+ends_at : (rules : Rules) (refs : List Definition) (r : Reader) → chars r.rest.now ≡ [] → outcome rules refs r ≡ state_made r
 unfolding outcome
-ends_at table refs r e = reading_nothing table refs (before (chars r.rest.now) (chars r.text.now)) (state_made r) (chars r.rest.now) e
+ends_at rules refs r e = reading_nothing rules refs (before (chars r.rest.now) (chars r.text.now)) (state_made r) (chars r.rest.now) e
 
-begins_at : (table : Table) (refs : List Definition) (text : Text) (b : Reader) → chars b.text.now ≡ text → chars b.rest.now ≡ text
-    → state_made b ≡ [] → outcome table refs b ≡ read table refs 10 [] 0 text
+begins_at : (rules : Rules) (refs : List Definition) (text : Text) (b : Reader) → chars b.text.now ≡ text → chars b.rest.now ≡ text
+    → state_made b ≡ [] → outcome rules refs b ≡ read rules refs 10 [] 0 text
 unfolding outcome last_or
-begins_at table refs text b e f g =
-    ap₂ (λ t made. reading table refs (before (chars b.rest.now) t) made (chars b.rest.now)) e g
-    ∙ (ap (λ t. reading table refs (before t text) [] t) f ∙ ap (λ behind. reading table refs behind [] text) (before_all text))
+begins_at rules refs text b e f g =
+    ap₂ (λ t made. reading rules refs (before (chars b.rest.now) t) made (chars b.rest.now)) e g
+    ∙ (ap (λ t. reading rules refs (before t text) [] t) f ∙ ap (λ behind. reading rules refs behind [] text) (before_all text))
 
 -- the emphasis of what was made then is that of the rules
-pub read_whole : (table : Table) (refs : List Definition) (text : Text) (b r f : Reader) (shown : List Inline) → chars b.text.now ≡ text
+pub read_whole : (rules : Rules) (refs : List Definition) (text : Text) (b r f : Reader) (shown : List Inline) → chars b.text.now ≡ text
     → chars b.rest.now ≡ text → state_made b ≡ [] →
-    chars r.rest.now ≡ [] → outcome table refs r ≡ outcome table refs b → chars f.plain.now ≡ chars f.rest.now
+    chars r.rest.now ≡ [] → outcome rules refs r ≡ outcome rules refs b → chars f.plain.now ≡ chars f.rest.now
     → state_made f ≡ state_made r → shown ≡ emphasis_of (reverse (made_of f.draft)) →
-    shown ≡ inlines_of table refs text
+    shown ≡ inlines_of rules refs text
 unfolding inlines_of
-read_whole table refs text b r f shown e g m n o p q s =
-    let own : made_of f.draft ≡ read table refs 10 [] 0 text =
+read_whole rules refs text b r f shown e g m n o p q s =
+    let own : made_of f.draft ≡ read rules refs 10 [] 0 text =
     sym (nothing_pending (made_of f.draft) (chars f.rest.now))
     ∙ (ap (λ t. made_before (made_of f.draft) t (chars f.rest.now)) (sym p)
-    ∙ (q ∙ (sym (ends_at table refs r n) ∙ (o ∙ begins_at table refs text b e g m)))) in
+    ∙ (q ∙ (sym (ends_at rules refs r n) ∙ (o ∙ begins_at rules refs text b e g m)))) in
     s ∙ ap (λ made. emphasis_of (reverse made)) own
 
 slices_in_front : (front rest : Text) (items : List MarkRef) → AreSlices front items → AreSlices (front ++ rest) items

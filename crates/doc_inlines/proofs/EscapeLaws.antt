@@ -7,7 +7,7 @@ use Rattle.std.specs.Char.{is_ascii_punctuation}
 use Rattle.doc_lines.specs.Entities.{characters as both}
 use Rattle.doc_rules.specs.Characters.{Text}
 use Rattle.doc_rules.specs.Parsers.{before, many, run_length}
-use Rattle.doc_rules.specs.Entities.{Table}
+use Rattle.doc_rules.specs.Rules.{Rules}
 use Rattle.doc_rules.specs.Escapes.{character_reference}
 use Rattle.doc_rules.specs.Definitions.{Definition}
 use Rattle.doc_rules.specs.Inlines.{Inline, Literal, Reference, HardBreak, literals, onto}
@@ -53,16 +53,16 @@ hard_made made new e = e
 pub spaces_taken : (rest next : Text) → Some next ≡ many (λ d. 32 == d) rest → run_length 32 rest ≡ length rest - length next
 spaces_taken rest next e = taken_by 32 (run_length 32 rest) rest next (split_at_run 32 rest next e)
 
-pub ending_reads : (table : Table) (refs : List Definition) (last : ℕ) (made : List Inline) (d : ℕ) (more rest next : Text)
+pub ending_reads : (rules : Rules) (refs : List Definition) (last : ℕ) (made : List Inline) (d : ℕ) (more rest next : Text)
     → more ≡ d ∷ rest → d ≡ 10 → IsRest next rest → Some next ≡ many (λ d. 32 == d) rest →
-    read_item table refs last made 92 more ≡ (HardBreak ∷ made, length more - length next)
+    read_item rules refs last made 92 more ≡ (HardBreak ∷ made, length more - length next)
 unfolding read_item kinds kind_in item_of_kind backslash
-ending_reads table refs last made d more rest next e f g h =
+ending_reads rules refs last made d more rest next e f g h =
     let n : run_length 32 rest ≡ length rest - length next = spaces_taken rest next h in
     let l : length next ≤ length rest = rest_is_shorter next rest g in
     let m : length more ≡ length (d ∷ rest) = ap length e in
     let k : suc (run_length 32 rest) ≡ length more - length next = omega arith in
-    ap (λ text. read_item table refs last made 92 text) (e ∙ ap (λ c. c ∷ rest) f) ∙ ap (λ n. (HardBreak ∷ made, n)) k
+    ap (λ text. read_item rules refs last made 92 text) (e ∙ ap (λ c. c ∷ rest) f) ∙ ap (λ n. (HardBreak ∷ made, n)) k
 
 abbrev if_punctuation : List Inline → ℕ → Bool → Step
 if_punctuation made d b = elim b [ true ↦ (Literal d ∷ made, 1) | false ↦ (Literal 92 ∷ made, 0) ]
@@ -74,30 +74,30 @@ if_ending made d rest b = elim b [
       (is_ascii_punctuation d)
 ]
 
-backslash_reads : (table : Table) (refs : List Definition) (last : ℕ) (made : List Inline) (d : ℕ) (rest : Text) → (d == 10) ≡ false
-    → read_item table refs last made 92 (d ∷ rest) ≡ if_punctuation made d (is_ascii_punctuation d)
+backslash_reads : (rules : Rules) (refs : List Definition) (last : ℕ) (made : List Inline) (d : ℕ) (rest : Text) → (d == 10) ≡ false
+    → read_item rules refs last made 92 (d ∷ rest) ≡ if_punctuation made d (is_ascii_punctuation d)
 unfolding read_item kinds kind_in item_of_kind backslash
-backslash_reads table refs last made d rest e = ap (if_ending made d rest) e
+backslash_reads rules refs last made d rest e = ap (if_ending made d rest) e
 
-pub escape_reads : (table : Table) (refs : List Definition) (last : ℕ) (made : List Inline) (d : ℕ) (more rest : Text) → more ≡ d ∷ rest
+pub escape_reads : (rules : Rules) (refs : List Definition) (last : ℕ) (made : List Inline) (d : ℕ) (more rest : Text) → more ≡ d ∷ rest
     → (d == 10) ≡ false → is_ascii_punctuation d ≡ true →
-    read_item table refs last made 92 more ≡ (Literal d ∷ made, length more - length rest)
-escape_reads table refs last made d more rest e f g =
+    read_item rules refs last made 92 more ≡ (Literal d ∷ made, length more - length rest)
+escape_reads rules refs last made d more rest e f g =
     let m : length more ≡ length (d ∷ rest) = ap length e in
     let k : 1 ≡ length more - length rest = omega arith in
-    ap (λ text. read_item table refs last made 92 text) e ∙ (backslash_reads table refs last made d rest f
+    ap (λ text. read_item rules refs last made 92 text) e ∙ (backslash_reads rules refs last made d rest f
     ∙ (ap (if_punctuation made d) g ∙ ap (λ n. (Literal d ∷ made, n)) k))
 
-pub lone_reads : (table : Table) (refs : List Definition) (last : ℕ) (made : List Inline) (d : ℕ) (more rest : Text) → more ≡ d ∷ rest
+pub lone_reads : (rules : Rules) (refs : List Definition) (last : ℕ) (made : List Inline) (d : ℕ) (more rest : Text) → more ≡ d ∷ rest
     → (d == 10) ≡ false → is_ascii_punctuation d ≡ false →
-    read_item table refs last made 92 more ≡ (Literal 92 ∷ made, 0)
-lone_reads table refs last made d more rest e f g =
-    ap (λ text. read_item table refs last made 92 text) e ∙ (backslash_reads table refs last made d rest f ∙ ap (if_punctuation made d) g)
+    read_item rules refs last made 92 more ≡ (Literal 92 ∷ made, 0)
+lone_reads rules refs last made d more rest e f g =
+    ap (λ text. read_item rules refs last made 92 text) e ∙ (backslash_reads rules refs last made d rest f ∙ ap (if_punctuation made d) g)
 
-pub last_reads : (table : Table) (refs : List Definition) (last : ℕ) (made : List Inline) (more : Text) → more ≡ []
-    → read_item table refs last made 92 more ≡ (Literal 92 ∷ made, 0)
+pub last_reads : (rules : Rules) (refs : List Definition) (last : ℕ) (made : List Inline) (more : Text) → more ≡ []
+    → read_item rules refs last made 92 more ≡ (Literal 92 ∷ made, 0)
 unfolding read_item kinds kind_in item_of_kind backslash
-last_reads table refs last made more e = ap (λ text. read_item table refs last made 92 text) e
+last_reads rules refs last made more e = ap (λ text. read_item rules refs last made 92 text) e
 
 -- the character behind the '\' has a mark of its own
 pub escaped_stands : (c d : ℕ) (rest more next : Text) (text : Bor Text) → rest ≡ c ∷ more → more ≡ d ∷ next
@@ -121,17 +121,17 @@ escaped_made d more next text made new e f g = g ∙ ap (λ t. onto (literals t)
 
 -- ---- a '&'
 
-pub reference_reads : (table : Table) (refs : List Definition) (last : ℕ) (made : List Inline) (more next characters : Text)
-    → character_reference table more ≡ Some (characters, length more - length next) →
-    read_item table refs last made 38 more ≡ (Reference (38 ∷ before next more) characters ∷ made, length more - length next)
+pub reference_reads : (rules : Rules) (refs : List Definition) (last : ℕ) (made : List Inline) (more next characters : Text)
+    → character_reference rules more ≡ Some (characters, length more - length next) →
+    read_item rules refs last made 38 more ≡ (Reference (38 ∷ before next more) characters ∷ made, length more - length next)
 unfolding read_item kinds kind_in item_of_kind ampersand
-reference_reads table refs last made more next characters e =
+reference_reads rules refs last made more next characters e =
     ap (λ found. elim found [ None ↦ (Literal 38 ∷ made, 0) | Some found ↦ (Reference (38 ∷ take found.1 more) found.0 ∷ made, found.1) ]) e
 
-pub no_reference_reads : (table : Table) (refs : List Definition) (last : ℕ) (made : List Inline) (more : Text)
-    → character_reference table more ≡ None → read_item table refs last made 38 more ≡ (Literal 38 ∷ made, 0)
+pub no_reference_reads : (rules : Rules) (refs : List Definition) (last : ℕ) (made : List Inline) (more : Text)
+    → character_reference rules more ≡ None → read_item rules refs last made 38 more ≡ (Literal 38 ∷ made, 0)
 unfolding read_item kinds kind_in item_of_kind ampersand
-no_reference_reads table refs last made more e =
+no_reference_reads rules refs last made more e =
     ap (λ found. elim found [ None ↦ (Literal 38 ∷ made, 0) | Some found ↦ (Reference (38 ∷ take found.1 more) found.0 ∷ made, found.1) ]) e
 
 -- what stands before a rest behind the first character

@@ -1,12 +1,12 @@
 -- Line breaks, and the spaces around them.
 use Rattle.std.proofs.Common.{◌≡◌, Bool, true, false, ◌==◌, ℕ, zero, suc, ◌+◌, ◌-◌, ◌≤◌, List, [], ◌∷◌, ◌++◌, length, replicate, refl, ap}
 use Rattle.std.proofs.Common.{ap₂, sym, ◌∙◌, subst, arith, Option, Some, None}
-use Rattle.std.specs.Prelude.{nat_le, if◌then◌else◌}
+use Rattle.std.specs.Prelude.{not, ◌&&◌, nat_le, if◌then◌else◌}
 use Rattle.std.specs.List.{list_all}
 use Rattle.std.proofs.lemmas.Bool.{eqb-true, eq-eqb, ne_eqb, le-leb}
 use Rattle.doc_rules.specs.Characters.{Text}
 use Rattle.doc_rules.specs.Parsers.{before, many, is, run_length}
-use Rattle.doc_rules.specs.Entities.{Table}
+use Rattle.doc_rules.specs.Rules.{Rules}
 use Rattle.doc_rules.specs.Definitions.{Definition}
 use Rattle.doc_rules.specs.Inlines.{Inline, SoftBreak, HardBreak, onto}
 use Rattle.doc_rules.specs.Reading.{read_item}
@@ -16,7 +16,7 @@ use Rattle.doc_inlines_marks.specs.declared.mark_ref.MarkRef.{MarkRef}
 use Rattle.doc_inlines_marks.specs.declared.mark_ref.MarkRef.TheVariants as mark
 use Rattle.doc_inlines_marks.specs.Slices.{slice_in, StandIn, IsCut}
 use Rattle.doc_inlines_marks.specs.Views.{inlines_in}
-use Rattle.doc_inlines.specs.ReadingSteps.{is_plain, breaks}
+use Rattle.doc_inlines.specs.ReadingSteps.{begins_by, is_plain, breaks}
 use Rattle.doc_inlines.specs.PlainSteps.{IsPlainStop}
 use Rattle.doc_inlines.specs.DraftSteps.{IsRunOf}
 use Rattle.doc_inlines.specs.ReaderSteps.{MarkStands, IsPlainRun}
@@ -48,12 +48,12 @@ break_made m x made new e f = f ∙ ap (λ those. onto those made) e
 
 -- ---- a line ending
 
-pub soft_reads : (table : Table) (refs : List Definition) (last : ℕ) (made : List Inline) (more next : Text)
-    → Some next ≡ many (λ d. 32 == d) more → read_item table refs last made 10 more ≡ (SoftBreak ∷ made, length more - length next)
-soft_reads table refs last made more next e =
+pub soft_reads : (rules : Rules) (refs : List Definition) (last : ℕ) (made : List Inline) (more next : Text)
+    → Some next ≡ many (λ d. 32 == d) more → read_item rules refs last made 10 more ≡ (SoftBreak ∷ made, length more - length next)
+soft_reads rules refs last made more next e =
     let a : run_length 32 more ≡ length more - length next = spaces_taken more next e in
     let n : 0 + run_length 32 more ≡ length more - length next = omega arith in
-    break_item table refs last made more ∙ ap (λ k. (SoftBreak ∷ made, k)) n
+    break_item rules refs last made more ∙ ap (λ k. (SoftBreak ∷ made, k)) n
 
 -- ---- how many spaces
 
@@ -92,11 +92,11 @@ is_first c (d ∷ more) rest e = at (d == c) refl e
     at true f g = let same : rest ≡ more = cc in ap₂ (λ x xs. x ∷ xs) (eqb-true d c f) (sym same)
     at false f g = absurd cc
 
-pub spaces_reads : (table : Table) (refs : List Definition) (last : ℕ) (made : List Inline) (hard : Bool) (more rest after next : Text)
+pub spaces_reads : (rules : Rules) (refs : List Definition) (last : ℕ) (made : List Inline) (hard : Bool) (more rest after next : Text)
     → Some rest ≡ many (λ d. 32 == d) more → IsRest rest more → rest ≡ 10 ∷ after →
     Some next ≡ many (λ d. 32 == d) after → IsRest next after → hard ≡ nat_le 2 (suc (run_length 32 more)) →
-    read_item table refs last made 32 more ≡ ((if hard then HardBreak else SoftBreak) ∷ made, length more - length next)
-spaces_reads table refs last made hard more rest after next e r f g s h =
+    read_item rules refs last made 32 more ≡ ((if hard then HardBreak else SoftBreak) ∷ made, length more - length next)
+spaces_reads rules refs last made hard more rest after next e r f g s h =
     let n : ℕ = run_length 32 more in
     let split : more ≡ replicate n 32 ++ (10 ∷ after) = split_at_run 32 more rest e ∙ ap (λ t. replicate n 32 ++ t) f in
     let a : run_length 32 more ≡ length more - length rest = taken_by 32 n more rest (split_at_run 32 more rest e) in
@@ -105,8 +105,8 @@ spaces_reads table refs last made hard more rest after next e r f g s h =
     let k : length rest ≤ length more = rest_is_shorter rest more r in
     let m : length rest ≡ length (10 ∷ after) = ap length f in
     let all : suc (run_length 32 more) + run_length 32 after ≡ length more - length next = omega arith in
-    ap (read_item table refs last made 32) split
-    ∙ (spaces_item table refs last made n after ∙ ap₂ (λ b k. ((if b then HardBreak else SoftBreak) ∷ made, k)) (sym h) all)
+    ap (read_item rules refs last made 32) split
+    ∙ (spaces_item rules refs last made n after ∙ ap₂ (λ b k. ((if b then HardBreak else SoftBreak) ∷ made, k)) (sym h) all)
 
 -- ---- spaces that are text
 
@@ -133,28 +133,37 @@ no_break (d ∷ rest) h e = ap (λ b. elim b [ true ↦ breaks rest | false ↦ 
     at true f = absurd cc
     at false f = refl
 
-spaces_plain : (n : ℕ) → list_all is_plain (replicate n 32) ≡ true
-spaces_plain zero = refl
-spaces_plain (suc n) = spaces_plain n
+space_is_plain : (strikes links : Bool) → begins_by strikes links 32 ≡ false
+space_is_plain true true = refl
+space_is_plain true false = refl
+space_is_plain false true = refl
+space_is_plain false false = refl
+
+spaces_plain : (rules : Rules) (n : ℕ) → list_all (is_plain rules) (replicate n 32) ≡ true
+spaces_plain rules zero = refl
+spaces_plain rules (suc n) =
+    ap (λ b. not b && list_all (is_plain rules) (replicate n 32)) (space_is_plain rules.strikethrough rules.bare_links)
+    ∙ spaces_plain rules n
 
 pub no_break_there : (more rest : Text) → Some rest ≡ many (λ d. 32 == d) more → None ≡ is 10 rest → breaks rest ≡ false
 no_break_there more rest f g = no_break rest (many_stops (λ d. 32 == d) more rest f) g
 
-spaces_run : (whole more rest : Text) → whole ≡ 32 ∷ more → Some rest ≡ many (λ d. 32 == d) more → IsRest rest more → None ≡ is 10 rest
-    → IsPlainRun whole rest
-spaces_run whole more rest e f r g =
+spaces_run : (rules : Rules) (whole more rest : Text) → whole ≡ 32 ∷ more → Some rest ≡ many (λ d. 32 == d) more → IsRest rest more → None ≡ is 10 rest
+    → IsPlainRun rules whole rest
+spaces_run rules whole more rest e f r g =
     let run : IsRunOf (run_length 32 more) 32 (before rest whole) = run_taken 32 whole more rest (before rest whole) e f refl in
-    let plain : list_all is_plain (before rest whole) ≡ true = ap (list_all is_plain) run.same ∙ spaces_plain (suc (run_length 32 more)) in
+    let plain : list_all (is_plain rules) (before rest whole) ≡ true = ap (list_all (is_plain rules)) run.same
+    ∙ spaces_plain rules (suc (run_length 32 more)) in
     let l : length rest ≤ length more = rest_is_shorter rest more r in
     let k : length whole ≡ length (32 ∷ more) = ap length e in
     record {
       behind = behind_first 32 more whole rest e r;
       plain = plain;
-      quiet = quiet_before (before rest whole) rest plain (no_break_there more rest f g);
+      quiet = quiet_before rules (before rest whole) rest plain (no_break_there more rest f g);
       shorter = omega arith;
     }
 
-pub spaces_and_words : (whole more rest end : Text) → whole ≡ 32 ∷ more → Some rest ≡ many (λ d. 32 == d) more → IsRest rest more
-    → None ≡ is 10 rest → IsPlainStop rest end → IsPlainRun whole end
-spaces_and_words whole more rest end e f r g u = run_goes_further whole rest end (spaces_run whole more rest e f r g)
+pub spaces_and_words : (rules : Rules) (whole more rest end : Text) → whole ≡ 32 ∷ more → Some rest ≡ many (λ d. 32 == d) more → IsRest rest more
+    → None ≡ is 10 rest → IsPlainStop rules rest end → IsPlainRun rules whole end
+spaces_and_words rules whole more rest end e f r g u = run_goes_further rules whole rest end (spaces_run rules whole more rest e f r g)
     (no_break_there more rest f g) u

@@ -17,3 +17,6 @@ pub mod GapLaws
 pub mod EnclosedLaws
 pub mod ClassLaws
 pub mod PlainEndLaws
+pub mod TildeLaws
+pub mod LiveLaws
+pub mod LetterLaws

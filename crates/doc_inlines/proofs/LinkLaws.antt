@@ -18,7 +18,7 @@ use Rattle.std.proofs.Math.Bool.{or-false}
 -- ---- the nearest bracket
 
 -- no inline of the list is a bracket
-abbrev NoBracket : List Inline → Type 0
+abbrev pub NoBracket : List Inline → Type 0
 NoBracket [] = Unit {0}
 NoBracket (Open bracket ∷ more) = ⊥
 NoBracket (inline ∷ more) = NoBracket more
@@ -34,7 +34,7 @@ final_no_bracket (Delimiters r ∷ xs) h = absurd h
 final_no_bracket (Open k ∷ xs) h = absurd h
 final_no_bracket (x ∷ xs) h = final_no_bracket xs h
 
-no_bracket_seen : (marks : Marks) (a b : ℕ) (runs : List Placed) → AreFinal marks → NoBracket (seen marks a b runs)
+pub no_bracket_seen : (marks : Marks) (a b : ℕ) (runs : List Placed) → AreFinal marks → NoBracket (seen marks a b runs)
 unfolding seen
 no_bracket_seen marks a b [] h = final_no_bracket (stretch marks a (b - a)) (final_stretch marks a (b - a) h)
 no_bracket_seen marks a b (p ∷ more) h =
@@ -42,7 +42,7 @@ no_bracket_seen marks a b (p ∷ more) h =
     (final_no_bracket (stretch marks a (p.first - a)) (final_stretch marks a (p.first - a) h))
     (no_bracket_seen marks (p.first + p.run.left) b more h)
 
-onto_first : (x : Inline) (xs made : List Inline) → onto (x ∷ xs) made ≡ onto xs (x ∷ made)
+pub onto_first : (x : Inline) (xs made : List Inline) → onto (x ∷ xs) made ≡ onto xs (x ∷ made)
 onto_first x xs made = onto_both (x ∷ []) xs made
 
 -- the search passes over inlines that are no brackets

@@ -1,10 +1,10 @@
 -- Runs of delimiters: what they take of a text, and what a reader makes of them.
-use Rattle.std.proofs.Common.{◌≡◌, Bool, true, false, ◌||◌, ◌==◌, ℕ, suc, ◌+◌, ◌-◌, List, [], ◌∷◌, ◌++◌, replicate, length, drop, map, refl}
+use Rattle.std.proofs.Common.{◌≡◌, Bool, true, false, ◌==◌, ℕ, suc, ◌+◌, ◌-◌, List, [], ◌∷◌, ◌++◌, replicate, length, drop, map, refl}
 use Rattle.std.proofs.Common.{ap, ap₂, sym, ◌∙◌, subst, Some, arith, eqb-true, length-append}
 use Rattle.std.proofs.lemmas.List.{length-replicate}
 use Rattle.doc_rules.specs.Characters.{Text, first_or, last_or}
 use Rattle.doc_rules.specs.Parsers.{many, before, run_length}
-use Rattle.doc_rules.specs.Entities.{Table}
+use Rattle.doc_rules.specs.Rules.{Rules}
 use Rattle.doc_rules.specs.Definitions.{Definition}
 use Rattle.doc_rules.specs.Inlines.{Inline, Run, Delimiters}
 use Rattle.doc_rules.specs.Emphasis.{run_between}
@@ -15,7 +15,10 @@ use Rattle.doc_inlines_marks.specs.declared.mark_ref.MarkRef.{MarkRef}
 use Rattle.doc_inlines_marks.specs.Slices.{StandIn, AreSlices, AreCut}
 use Rattle.doc_inlines_emphasis.specs.Texts.{IsRunText, AddsEach}
 use Rattle.doc_inlines_emphasis.proofs.MarkLaws.{each_slices, each_cut}
+use Rattle.doc_inlines_emphasis.specs.declared.delimiter.Delimiter.{Delimiter}
+use Rattle.doc_inlines_emphasis.specs.declared.delimiter.Delimiter.TheVariants.{Star, Underscore}
 use Rattle.doc_inlines.specs.DraftSteps.{IsRunOf}
+use Rattle.doc_inlines.specs.TildeSteps.{BeginsRun, IsRead}
 use Rattle.doc_inlines.specs.ReaderSteps.{made_before}
 use Rattle.doc_inlines.proofs.ReadingLaws.{before_is}
 use Rattle.doc_inlines.proofs.ReaderLaws.{before_both, nothing_pending}
@@ -78,23 +81,28 @@ run_taken c rest more next run e f g =
     let split : rest ≡ replicate (suc n) c ++ next = e ∙ ap (λ those. c ∷ those) (split_at_run c more next f) in
     record { same = g ∙ (ap (before next) split ∙ before_is (replicate (suc n) c) next) }
 
-pub run_text : (n c : ℕ) (run : Text) → ((c == 42) || (c == 95)) ≡ true → IsRunOf n c run → IsRunText run
-run_text n c run e r = at (c == 42) refl e
-  where
-    at : (b : Bool) → (c == 42) ≡ b → (b || (c == 95)) ≡ true → IsRunText run
-    at true f g = record { star = true; more = n; is = r.same ∙ ap (replicate (suc n)) (eqb-true c 42 f) }
-    at false f g = record { star = false; more = n; is = r.same ∙ ap (replicate (suc n)) (eqb-true c 95 g) }
+pub run_text : (c : ℕ) (own : Delimiter) (more run : Text) → BeginsRun c own more → IsRunOf (run_length c more) c run → IsRunText own run
+run_text c own more run b r = record {
+  more = run_length c more;
+  is = r.same ∙ ap (replicate (suc (run_length c more))) (sym b.same);
+  fits = b.fits;
+}
 
 -- ---- what the rules make of a run
 
-delimiter_reads : (table : Table) (refs : List Definition) (c last : ℕ) (made : List Inline) (more : Text)
-    → ((c == 42) || (c == 95)) ≡ true → read_item table refs last made c more ≡ delimiters last made c more
+pub star_is_read : (rules : Rules) (more : Text) → IsRead rules 42 more
 unfolding read_item kind_in kinds item_of_kind
-delimiter_reads table refs c last made more e = at (c == 42) refl e
-  where
-    at : (b : Bool) → (c == 42) ≡ b → (b || (c == 95)) ≡ true → read_item table refs last made c more ≡ delimiters last made c more
-    at true f g = subst (λ d. read_item table refs last made d more ≡ delimiters last made d more) (sym (eqb-true c 42 f)) refl
-    at false f g = subst (λ d. read_item table refs last made d more ≡ delimiters last made d more) (sym (eqb-true c 95 g)) refl
+star_is_read rules more refs last made = refl
+
+pub underscore_is_read : (rules : Rules) (more : Text) → IsRead rules 95 more
+unfolding read_item kind_in kinds item_of_kind
+underscore_is_read rules more refs last made = refl
+
+pub star_begins : (more : Text) → BeginsRun 42 Star more
+star_begins more = record { same = refl; fits = refl }
+
+pub underscore_begins : (more : Text) → BeginsRun 95 Underscore more
+underscore_begins more = record { same = refl; fits = refl }
 
 abbrev own_run : ℕ → ℕ → Bool → Bool → Run
 own_run c n opens closes = record { char = c; left = n; length = n; opens = opens; closes = closes }
@@ -115,11 +123,11 @@ taken_by c n text rest e =
     let k : length (replicate n c) ≡ n = length-replicate n c in
     omega arith
 
-pub run_reads : (table : Table) (refs : List Definition) (c last first : ℕ) (opens closes : Bool) (front more next : Text)
-    (made : List Inline) → ((c == 42) || (c == 95)) ≡ true →
+pub run_reads : (rules : Rules) (refs : List Definition) (c last first : ℕ) (opens closes : Bool) (front more next : Text)
+    (made : List Inline) → IsRead rules c more →
     Some next ≡ many (λ d. c == d) more → last ≡ last_or 10 front → first ≡ first_or 10 next
     → ((n : ℕ) → opens ≡ (run_between c n last first).opens) → ((n : ℕ) → closes ≡ (run_between c n last first).closes) →
-    read_item table refs (last_or 10 front) made c more
+    read_item rules refs (last_or 10 front) made c more
     ≡ (
       Delimiters (record {
         char = c;
@@ -131,9 +139,9 @@ pub run_reads : (table : Table) (refs : List Definition) (c last first : ℕ) (o
       length more - length next,
     )
 unfolding delimiters
-run_reads table refs c last first opens closes front more next made e f g h o k =
+run_reads rules refs c last first opens closes front more next made e f g h o k =
     let n : ℕ = run_length c more in
-    delimiter_reads table refs c (last_or 10 front) made more e
+    e refs (last_or 10 front) made
     ∙ (ap₂ (λ a b. run_step made (run_between c (suc n) a b) n) (sym g) (ap (first_or 10) (sym (behind_run c more next f)) ∙ sym h)
     ∙ (ap (λ run. run_step made run n) (run_is c (suc n) last first opens closes (o (suc n)) (k (suc n)))
     ∙ ap (run_step made (own_run c (suc n) opens closes)) (taken_by c n more next (split_at_run c more next f))))

@@ -1,7 +1,7 @@
 -- Brackets that a ']' closes.
 use Rattle.std.specs.Prelude.{◌≡◌, Bool, true, false, List, [], ◌∷◌, ◌++◌, chars, Some, None}
 use Rattle.doc_rules.specs.Characters.{Text}
-use Rattle.doc_rules.specs.Entities.{Table}
+use Rattle.doc_rules.specs.Rules.{Rules}
 use Rattle.doc_rules.specs.Definitions.{Definition}
 use Rattle.doc_rules.specs.Inlines.{onto}
 use Rattle.doc_rules.specs.Links.{Tail, link_tail, last_bracket}
@@ -14,8 +14,8 @@ use Rattle.doc_inlines.specs.DraftSteps.{AreOpen, last_of, since_of, before_of}
 use Rattle.doc_inlines.specs.ReaderSteps.{IsReader, state_made}
 
 -- the tail behind a bracket's text, where the bracket may begin a link or an image
-abbrev pub tail_where : Bool → Table → List Definition → Text → Text → Tail
-tail_where live table refs between rest = elim live [ true ↦ link_tail table refs between rest | false ↦ None ]
+abbrev pub tail_where : Bool → Rules → List Definition → Text → Text → Tail
+tail_where live rules refs between rest = elim live [ true ↦ link_tail rules refs between rest | false ↦ None ]
 
 -- no bracket is open, and the reader stays as it is
 pub record HasNoBracket (old new : Reader) : Type 0 where

@@ -1,6 +1,6 @@
 -- What a draft stands for.
 use Rattle.std.specs.Prelude.{◌≡◌, ℕ, suc, Some, take, drop, ◌≤◌, Bool, List, [], ◌∷◌, ◌++◌, map, reverse, replicate, length, chars, codes}
-use Rattle.std.specs.Prelude.{if◌then◌else◌}
+use Rattle.std.specs.Prelude.{if◌then◌else◌, ◌||◌, false, ⊤}
 use Rattle.doc_rules.specs.Characters.{Text}
 use Rattle.doc_rules.specs.Inlines.{Inline, onto}
 use Rattle.doc_rules.specs.Links.{LastBracket, last_bracket}
@@ -35,10 +35,21 @@ made_of draft = made_by (items_of draft.marks) (runs_in draft.marks) draft.brack
 pub record AreOpen (items : List MarkRef) (runs : List Placed) (brackets : List Bracket) : Type 0 where
   pub stand : AreBrackets (marks_shown items) (length items) runs (brackets_shown brackets)
 
+-- one of these brackets is an image's
+abbrev pub holds_image : List Bracket → Bool
+holds_image [] = false
+holds_image (bracket ∷ more) = bracket.image || holds_image more
+
+-- each of these brackets, the nearest first, tells whether it or one before it is an image's
+abbrev pub TellImages : List Bracket → Type 0
+TellImages [] = ⊤
+TellImages (bracket ∷ more) = (bracket.images ≡ holds_image (bracket ∷ more)) × TellImages more
+
 pub record IsDraft (draft : Draft) : Type 0 where
   pub marks : IsSound draft.marks
   pub brackets : AreOpen (items_of draft.marks) (runs_in draft.marks) draft.brackets.items
   pub dead : draft.dead ≤ length draft.brackets.items
+  pub images : TellImages (reverse draft.brackets.items)
 
 -- n of this character, and one more
 pub record IsRunOf (n c : ℕ) (text : Text) : Type 0 where

@@ -7,3 +7,4 @@ pub mod PieceSteps
 pub mod ClosingSteps
 pub mod PlainSteps
 pub mod ClassSteps
+pub mod TildeSteps

@@ -16,6 +16,7 @@ use Rattle.doc_inlines.specs.declared.mark.Mark.TheVariants.{Text, Code, Soft, H
 unfoldable pub span_shown : Span → inlines.Span
 span_shown span.Emphasis = inlines.Emphasis
 span_shown span.Strong = inlines.Strong
+span_shown span.Strike = inlines.Strike
 span_shown (span.Link target) = inlines.Link (target_shown target)
 span_shown (span.Image target) = inlines.Image (target_shown target)
 

@@ -3,7 +3,7 @@ use Rattle.std.specs.Prelude.{◌≡◌, ℕ, ◌<◌, ◌≤◌, not, Bool, tru
 use Rattle.std.specs.List.{list_all}
 use Rattle.doc_rules.specs.Characters.{Text, one_of, last_or}
 use Rattle.doc_rules.specs.Parsers.{before}
-use Rattle.doc_rules.specs.Entities.{Table}
+use Rattle.doc_rules.specs.Rules.{Rules}
 use Rattle.doc_rules.specs.Definitions.{Definition}
 use Rattle.doc_rules.specs.Inlines.{Inline, literals, onto}
 use Rattle.doc_rules.specs.Reading.{read_item}
@@ -39,8 +39,8 @@ abbrev pub state_made : Reader → List Inline
 state_made reader = made_before (made_of reader.draft) (chars reader.plain.now) (chars reader.rest.now)
 
 -- all inlines of the text, as they come out from here
-unfoldable pub outcome : Table → List Definition → Reader → List Inline
-outcome table refs reader = reading table refs (before (chars reader.rest.now) (chars reader.text.now)) (state_made reader)
+unfoldable pub outcome : Rules → List Definition → Reader → List Inline
+outcome rules refs reader = reading rules refs (before (chars reader.rest.now) (chars reader.text.now)) (state_made reader)
     (chars reader.rest.now)
 
 -- the marks stand before the text that is in no mark yet, which holds nothing that HTML writes otherwise
@@ -56,19 +56,19 @@ pub record IsReader (reader : Reader) : Type 0 where
   pub missing : TellsOfEnds reader.missing (chars reader.text.now)
 
 -- reading on from the new state is reading on from the old one
-pub record GoesOn (table : Table) (targets : Targets) (old new : Reader) : Type 0 where
+pub record GoesOn (rules : Rules) (targets : Targets) (old new : Reader) : Type 0 where
   pub sound : IsReader new
   pub text : new.text ≡ old.text
   pub reads : (definitions : List Definition) → targets ≡ targets_of definitions
-      → outcome table definitions new ≡ outcome table definitions old
+      → outcome rules definitions new ≡ outcome rules definitions old
   pub shorter : length (chars new.rest.now) < length (chars old.rest.now)
 
 -- the same, where nothing may have been read
-pub record ReadsOn (table : Table) (targets : Targets) (old new : Reader) : Type 0 where
+pub record ReadsOn (rules : Rules) (targets : Targets) (old new : Reader) : Type 0 where
   pub sound : IsReader new
   pub text : new.text ≡ old.text
   pub reads : (definitions : List Definition) → targets ≡ targets_of definitions
-      → outcome table definitions new ≡ outcome table definitions old
+      → outcome rules definitions new ≡ outcome rules definitions old
   pub no_longer : length (chars new.rest.now) ≤ length (chars old.rest.now)
 
 -- a mark for the text between two rests: its slice, if it has one, stands there, and it is cut
@@ -78,22 +78,22 @@ pub record MarkStands (mark : MarkRef) (rest next : Text) : Type 0 where
   pub cut : IsCut mark
 
 -- all items are read
-pub record ReadsAll (table : Table) (targets : Targets) (old new : Reader) : Type 0 where
+pub record ReadsAll (rules : Rules) (targets : Targets) (old new : Reader) : Type 0 where
   pub sound : IsReader new
   pub text : new.text ≡ old.text
   pub nothing : chars new.rest.now ≡ []
   pub reads : (definitions : List Definition) → targets ≡ targets_of definitions
-      → outcome table definitions new ≡ outcome table definitions old
+      → outcome rules definitions new ≡ outcome rules definitions old
 
 -- this first character, with this text behind it, is read so, and makes this
-abbrev pub ReadsAs : Table → Targets → Reader → ℕ → Text → List Inline → ℕ → Type 0
-ReadsAs table targets old c more made n =
+abbrev pub ReadsAs : Rules → Targets → Reader → ℕ → Text → List Inline → ℕ → Type 0
+ReadsAs rules targets old c more made n =
     (definitions : List Definition) → targets ≡ targets_of definitions →
-    read_item table definitions (last_or 10 (before (chars old.rest.now) (chars old.text.now))) (state_made old) c more ≡ (made, n)
+    read_item rules definitions (last_or 10 (before (chars old.rest.now) (chars old.text.now))) (state_made old) c more ≡ (made, n)
 
 -- plain characters stand before this rest, one at least, and no space among them is a line break's
-pub record IsPlainRun (rest next : Text) : Type 0 where
+pub record IsPlainRun (rules : Rules) (rest next : Text) : Type 0 where
   pub behind : IsRest next rest
-  pub plain : list_all is_plain (before next rest) ≡ true
+  pub plain : list_all (is_plain rules) (before next rest) ≡ true
   pub quiet : Quiet (before next rest) next
   pub shorter : length next < length rest

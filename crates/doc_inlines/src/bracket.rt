@@ -10,6 +10,8 @@ pub(crate) struct Bracket<'t> {
     pub(crate) place: Place,
     /// Whether it is `![`.
     pub(crate) image: bool,
+    /// Whether it, or one that is open before it, is `![`.
+    pub(crate) images: bool,
     /// The text behind it.
     pub(crate) behind: &'t str,
 }

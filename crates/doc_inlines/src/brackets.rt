@@ -1,6 +1,6 @@
 //! Brackets: what a `[`, a `![` and a `]` make (CommonMark 0.31.2, sections 6.3 and 6.4).
 ghost use Rattle.std.specs.Prelude.{◌≡◌, Bool, [], ◌∷◌, ◌++◌, List, chars, OnOk, IfOk, IfSome, MatchOption, true};
-ghost use Rattle.doc_rules.specs.Entities.{Table};
+ghost use Rattle.doc_rules.specs.Rules.{Rules};
 ghost use Rattle.doc_rules.specs.Definitions.{Definition};
 ghost use Rattle.doc_rules.specs.Parsers.{before};
 ghost use Rattle.doc_rules.specs.Inlines.{Open};
@@ -30,8 +30,8 @@ impl<'t, 'r> Reader<'t, 'r> {
     pub(crate) fn left_bracket(&mut self, behind: &'t str) -> Result<(), Memory>
         requires sound { IsReader self.old }
         requires first { chars self.old.rest.now ≡ 91 ∷ chars behind.now }
-        ensures { OnOk result ((table : Table) (targets : Targets)
-            → GoesOn table targets self.old self.new) }
+        ensures { OnOk result ((rules : Rules) (targets : Targets)
+            → GoesOn rules targets self.old self.new) }
     {
         self.open(false, behind)?;
         Ok(())
@@ -41,8 +41,8 @@ impl<'t, 'r> Reader<'t, 'r> {
     pub(crate) fn bang(&mut self, behind: &'t str) -> Result<(), Memory>
         requires sound { IsReader self.old }
         requires first { chars self.old.rest.now ≡ 33 ∷ chars behind.now }
-        ensures { OnOk result ((table : Table) (targets : Targets)
-            → GoesOn table targets self.old self.new) }
+        ensures { OnOk result ((rules : Rules) (targets : Targets)
+            → GoesOn rules targets self.old self.new) }
     {
         let Some(after) = is(behind, '[') else {
             self.pass(behind);

@@ -8,16 +8,17 @@ ghost use Rattle.doc_rules.specs.Inlines as images;
 ghost use Rattle.doc_rules.specs.Characters as rules;
 ghost use Rattle.doc_rules.specs.Links.{linked};
 ghost use Rattle.doc_rules.specs.Emphasis.{emphasis_of};
+ghost use Rattle.doc_rules.specs.Reading.{has_live_bracket};
 ghost use Rattle.doc_inlines_marks.specs.Slices.{AreSlices, AreCut};
 ghost use Rattle.doc_inlines_marks.specs.Targets.{named};
 ghost use Rattle.doc_inlines_marks.specs.Views.{inlines_in, inlines_shown, span_shown};
 ghost use Rattle.doc_inlines_marks.specs.declared.mark_ref.MarkRef.TheVariants.{Text};
 ghost use Rattle.doc_inlines_emphasis.specs.Views.{items_of, runs_in};
 ghost use Rattle.doc_inlines_emphasis.specs.Texts.{IsRunText, AddsEach};
-ghost use Rattle.doc_inlines.specs.DraftSteps.{IsDraft, made_of, AreOpen, IsRunOf, codes_of_bracket, AddsBracket, IsPopped, last_of};
+ghost use Rattle.doc_inlines.specs.DraftSteps.{IsDraft, holds_image, made_of, AreOpen, IsRunOf, codes_of_bracket, AddsBracket, IsPopped, last_of};
 
 use crate::bracket::Bracket;
-use doc_inlines_emphasis::{Marks, Place};
+use doc_inlines_emphasis::{Delimiter, Marks, Place};
 use doc_inlines_marks::mark_ref::{MarkRef, SpanRef};
 use doc_inlines_marks::target_ref::TargetRef;
 use doc_page_parts::failure::Memory;
@@ -74,9 +75,15 @@ impl<'t, 'r> Draft<'t, 'r> {
     }
 
     /// A run of delimiters behind all: each has a mark of its own.
-    pub(crate) fn put_run(&mut self, text: &'t str, opens: bool, closes: bool) -> Result<(), Memory>
+    pub(crate) fn put_run(
+        &mut self,
+        text: &'t str,
+        own: Delimiter,
+        opens: bool,
+        closes: bool,
+    ) -> Result<(), Memory>
         requires sound { IsDraft self.old }
-        requires text { IsRunText (chars text.now) }
+        requires text { IsRunText own (chars text.now) }
         ensures items { OnOk result (AddsEach (items_of self.old.marks) (items_of self.new.marks)
             (chars text.now)) }
         ensures brackets { OnOk result (self.new.brackets.items ≡ self.old.brackets.items) }
@@ -86,7 +93,7 @@ impl<'t, 'r> Draft<'t, 'r> {
             ∷ made_of self.old) }
         ensures sound { OnOk result (IsDraft self.new) }
     {
-        self.marks.push_run(text, opens, closes)?;
+        self.marks.push_run(text, own, opens, closes)?;
         Ok(())
     }
 
@@ -104,13 +111,34 @@ impl<'t, 'r> Draft<'t, 'r> {
         ensures sound { OnOk result (IsDraft self.new) }
     {
         let place = self.marks.place();
+        let images = image || self.has_image();
         self.brackets.push(Bracket {
             place,
             image,
+            images,
             behind,
         })?;
         self.marks.push(MarkRef::Text(text))?;
         Ok(())
+    }
+
+    /// Whether an image's bracket is open.
+    fn has_image(&self) -> bool
+        requires { IsDraft self.now }
+        ensures { result ≡ holds_image (reverse self.now.brackets.items) }
+    {
+        let Some(last) = self.brackets.as_slice().last() else {
+            return false;
+        };
+        last.images
+    }
+
+    /// Whether a bracket is open that may begin a link or an image.
+    pub(crate) fn has_live_bracket(&self) -> bool
+        requires { IsDraft self.now }
+        ensures { result ≡ has_live_bracket (made_of self.now) }
+    {
+        self.has_image() || self.dead < self.brackets.as_slice().len()
     }
 
     /// Closes the last bracket: its mark stays the text that it is. Also whether it may begin a link or an image.

@@ -1,9 +1,9 @@
 //! Code spans, autolinks and raw HTML (CommonMark 0.31.2, sections 6.1, 6.5 and 6.6).
 ghost use Rattle.std.specs.Prelude.{◌≡◌, ◌++◌, ◌∷◌, [], chars, Some, OnOk, IfOk, MatchOption};
-ghost use Rattle.doc_rules.specs.Entities.{Table};
+ghost use Rattle.doc_rules.specs.Rules.{Rules};
 ghost use Rattle.doc_rules.specs.Inlines.{literals, onto};
 ghost use Rattle.doc_rules.specs.Reading.{autolink};
-ghost use Rattle.doc_rules.specs.Reading as rules;
+ghost use Rattle.doc_rules.specs.Reading as specs;
 ghost use Rattle.doc_rules.specs.Parsers.{many};
 ghost use Rattle.doc_rules.specs.Rests.{IsRest};
 ghost use Rattle.doc_refs_parts.specs.Targets.{Targets};
@@ -33,8 +33,8 @@ impl<'t, 'r> Reader<'t, 'r> {
     pub(crate) fn backticks(&mut self, behind: &'t str) -> Result<(), Memory>
         requires sound { IsReader self.old }
         requires first { chars self.old.rest.now ≡ 96 ∷ chars behind.now }
-        ensures { OnOk result ((table : Table) (targets : Targets)
-            → GoesOn table targets self.old self.new) }
+        ensures { OnOk result ((rules : Rules) (targets : Targets)
+            → GoesOn rules targets self.old self.new) }
     {
         let (found, next) = self.backticks.code_span(behind)?;
         match found {
@@ -53,8 +53,8 @@ impl<'t, 'r> Reader<'t, 'r> {
     pub(crate) fn left_angle(&mut self, behind: &'t str) -> Result<(), Memory>
         requires sound { IsReader self.old }
         requires first { chars self.old.rest.now ≡ 60 ∷ chars behind.now }
-        ensures { OnOk result ((table : Table) (targets : Targets)
-            → GoesOn table targets self.old self.new) }
+        ensures { OnOk result ((rules : Rules) (targets : Targets)
+            → GoesOn rules targets self.old self.new) }
     {
         match self.missing.enclosed(self.rest) {
             Some((found, next)) => {
@@ -96,7 +96,7 @@ impl<'t, 'r> Reader<'t, 'r> {
     }
 
     /// A link over an address, which stands in front of this rest. Its destination is the address behind this scheme.
-    fn put_autolink(
+    pub(crate) fn put_autolink(
         &mut self,
         scheme: &'static str,
         address: &'t str,
@@ -181,7 +181,7 @@ fn autolink_span<'t, 'r>(
     address: &'t str,
 ) -> Result<SpanRef<'t, 'r>, Memory>
     ensures { IfOk result (λ span. span_shown span
-        ≡ rules.autolink_span (chars scheme.now ++ chars address.now)) }
+        ≡ specs.autolink_span (chars scheme.now ++ chars address.now)) }
 {
     Ok(SpanRef::Link(arena.target(TargetRef::Address { scheme, address })?))
 }

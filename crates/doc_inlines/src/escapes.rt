@@ -1,6 +1,6 @@
 //! Escapes and character references (CommonMark 0.31.2, sections 2.4 and 2.5).
 ghost use Rattle.std.specs.Prelude.{◌≡◌, ◌∷◌, chars, OnOk};
-ghost use Rattle.doc_rules.specs.Entities.{Table};
+ghost use Rattle.doc_rules.specs.Rules.{Rules};
 ghost use Rattle.doc_refs_parts.specs.Targets.{Targets};
 ghost use Rattle.doc_inlines.specs.ReaderSteps.{IsReader, GoesOn};
 
@@ -18,8 +18,8 @@ impl<'t, 'r> Reader<'t, 'r> {
     pub(crate) fn backslash(&mut self, behind: &'t str) -> Result<(), Memory>
         requires sound { IsReader self.old }
         requires first { chars self.old.rest.now ≡ 92 ∷ chars behind.now }
-        ensures { OnOk result ((table : Table) (targets : Targets)
-            → GoesOn table targets self.old self.new) }
+        ensures { OnOk result ((rules : Rules) (targets : Targets)
+            → GoesOn rules targets self.old self.new) }
     {
         let Some((d, rest)) = next_char(behind) else {
             self.literal('\\', behind);

@@ -1,7 +1,7 @@
 //! Line breaks, with the spaces around them (CommonMark 0.31.2, sections 6.7 and 6.8).
 ghost use Rattle.std.specs.Prelude.{◌≡◌, suc, nat_le, [], ◌∷◌, chars, OnOk, if◌then◌else◌};
 ghost use Rattle.doc_rules.specs.Parsers.{run_length};
-ghost use Rattle.doc_rules.specs.Entities.{Table};
+ghost use Rattle.doc_rules.specs.Rules.{Rules};
 ghost use Rattle.doc_rules.specs.Inlines.{SoftBreak, HardBreak};
 ghost use Rattle.doc_refs_parts.specs.Targets.{Targets};
 ghost use Rattle.doc_inlines_marks.specs.Slices.{slice_in, IsCut};
@@ -12,6 +12,7 @@ use crate::plain::behind_plain;
 use crate::reader::Reader;
 use crate::runs::behind_run;
 use doc_inlines_marks::mark_ref::MarkRef;
+use doc_lines::entities::Entities;
 use doc_lines::scan::character::{is, next_char};
 use doc_page_parts::failure::Memory;
 
@@ -20,8 +21,8 @@ impl<'t, 'r> Reader<'t, 'r> {
     pub(crate) fn line_ending(&mut self, behind: &'t str) -> Result<(), Memory>
         requires sound { IsReader self.old }
         requires first { chars self.old.rest.now ≡ 10 ∷ chars behind.now }
-        ensures { OnOk result ((table : Table) (targets : Targets)
-            → GoesOn table targets self.old self.new) }
+        ensures { OnOk result ((rules : Rules) (targets : Targets)
+            → GoesOn rules targets self.old self.new) }
     {
         self.put(MarkRef::Soft, behind_run(behind, ' '))?;
         Ok(())
@@ -29,15 +30,15 @@ impl<'t, 'r> Reader<'t, 'r> {
 
     /// Spaces: before a line ending they belong to the break, which is hard where they are two or more. Else they are text, with the plain
     /// text behind them.
-    pub(crate) fn spaces(&mut self, behind: &'t str) -> Result<(), Memory>
+    pub(crate) fn spaces(&mut self, entities: &Entities, behind: &'t str) -> Result<(), Memory>
         requires sound { IsReader self.old }
         requires first { chars self.old.rest.now ≡ 32 ∷ chars behind.now }
-        ensures { OnOk result ((table : Table) (targets : Targets)
-            → GoesOn table targets self.old self.new) }
+        ensures { OnOk result ((targets : Targets)
+            → GoesOn entities.now targets self.old self.new) }
     {
         let rest = behind_run(behind, ' ');
         let Some(after) = is(rest, '\n') else {
-            self.pass_plain(behind_plain(rest));
+            self.pass_plain(entities, behind_plain(entities, rest));
             return Ok(());
         };
         let mark: MarkRef<'t, 'r> = break_mark(begins_with_space(behind));

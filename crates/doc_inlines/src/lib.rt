@@ -4,8 +4,8 @@
 //! by its first character (`Reader::item`):
 //!
 //! 1. plain text is passed over by a table of bytes, and gets one mark when the next one is put (`Reader::flush`);
-//! 2. escapes, references, code spans, autolinks, raw HTML and breaks are read whole, so they bind before brackets;
-//! 3. a run of `*` or `_` gets a mark for each delimiter, and is kept among the runs (`doc_inlines_emphasis`);
+//! 2. escapes, references, code spans, autolinks, raw HTML, breaks and bare links are read whole, so they bind before brackets;
+//! 3. a run of `*`, `_` or `~` gets a mark for each delimiter, and is kept among the runs (`doc_inlines_emphasis`);
 //! 4. a `[` or `![` is put as text and kept on a stack of open brackets (`draft`). At a `]` the last one leaves the stack: with a tail
 //!    behind the `]`, what stands between is wrapped in emphasis, and the bracket's mark becomes the start of a link or an image; else
 //!    both stay text. So brackets bind before emphasis;
@@ -28,6 +28,7 @@ mod draft;
 mod enclosed;
 mod escapes;
 mod gaps;
+mod links;
 mod mark;
 mod plain;
 mod reader;

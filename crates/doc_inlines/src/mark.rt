@@ -12,11 +12,12 @@ use doc_page_parts::heap::{Heap, String, Vec};
 use doc_page_parts::text::Text;
 use doc_refs::Target;
 
-/// What inlines may stand in (CommonMark 0.31.2, sections 6.2 to 6.4).
+/// What inlines may stand in (CommonMark 0.31.2, sections 6.2 to 6.4), also what is struck through (GFM 0.29, section 6.5).
 #[derive(Debug, Drop)]
 pub enum Span {
     Emphasis,
     Strong,
+    Strike,
     Link(Target),
     Image(Target),
 }
@@ -84,6 +85,7 @@ fn owned_span<'t, 'r>(heap: Heap, span: SpanRef<'t, 'r>) -> Result<Span, Memory>
     match span {
         SpanRef::Emphasis => Ok(Span::Emphasis),
         SpanRef::Strong => Ok(Span::Strong),
+        SpanRef::Strike => Ok(Span::Strike),
         SpanRef::Link(target) => Ok(Span::Link(target.to_target(heap)?)),
         SpanRef::Image(target) => Ok(Span::Image(target.to_target(heap)?)),
     }

@@ -9,7 +9,7 @@ ghost use Rattle.doc_rules.specs.Parsers.{before};
 ghost use Rattle.doc_rules.specs.Inlines.{literals, onto};
 ghost use Rattle.doc_rules.specs.Reading.{inlines_of};
 ghost use Rattle.doc_rules.specs.Rests.{IsRest};
-ghost use Rattle.doc_rules.specs.Entities.{Table};
+ghost use Rattle.doc_rules.specs.Rules.{Rules};
 ghost use Rattle.doc_refs_parts.specs.Targets.{Targets, targets_of};
 ghost use Rattle.doc_inlines_marks.specs.Slices.{AreSlices, AreCut};
 ghost use Rattle.doc_inlines_marks.specs.Views.{inlines_in, inlines_shown};
@@ -17,6 +17,7 @@ ghost use Rattle.doc_inlines.specs.ReaderSteps.{IsReader, GoesOn, ReadsOn, Reads
 
 use crate::draft::Draft;
 use crate::plain::behind_plain;
+use doc_inlines_emphasis::Delimiter;
 use doc_inlines_marks::arena::Arena;
 use doc_inlines_marks::mark_ref::MarkRef;
 use doc_inlines_marks::{Backticks, MissingEnds};
@@ -108,17 +109,17 @@ impl<'t, 'r> Reader<'t, 'r> {
     {
         'items: while let Some((c, behind)) = next_char(self.rest) {
             self.item(heap, entities, refs, c, behind)?;
-            self.skip_plain();
+            self.skip_plain(entities);
         }
         Ok(())
     }
 
     /// Passes the plain text at the front of the rest, if there is any.
-    fn skip_plain(&mut self)
+    fn skip_plain(&mut self, entities: &Entities)
         requires { IsReader self.old }
-        ensures { (table : Table) (targets : Targets) → ReadsOn table targets self.old self.new }
+        ensures { (targets : Targets) → ReadsOn entities.now targets self.old self.new }
     {
-        self.pass(behind_plain(self.rest));
+        self.pass(behind_plain(entities, self.rest));
     }
 
     /// Reads one item, by its first character.
@@ -135,21 +136,23 @@ impl<'t, 'r> Reader<'t, 'r> {
         ensures { OnOk result (GoesOn entities.now refs.now self.old self.new) }
     {
         match c {
-            ' ' => self.spaces(behind),
+            ' ' => self.spaces(entities, behind),
             '\n' => self.line_ending(behind),
             '\\' => self.backslash(behind),
             '&' => self.ampersand(entities, behind),
             '`' => self.backticks(behind),
             '<' => self.left_angle(behind),
-            '*' => self.delimiters('*', behind),
-            '_' => self.delimiters('_', behind),
+            '*' => self.delimiters('*', Delimiter::Star, behind),
+            '_' => self.delimiters('_', Delimiter::Underscore, behind),
+            '~' => self.tilde(entities, behind),
+            'w' | 'h' | 'H' | 'f' | 'F' => self.letter(entities, c, behind),
             '[' => self.left_bracket(behind),
             '!' => self.bang(behind),
             ']' => self.right_bracket(heap, entities, refs, behind),
             '>' => self.other('>', behind),
             '"' => self.other('"', behind),
             _ => {
-                self.plain(c, behind);
+                self.plain(entities, c, behind);
                 Ok(())
             }
         }

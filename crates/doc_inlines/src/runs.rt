@@ -1,32 +1,41 @@
-//! Runs of delimiters, and which may open or close emphasis by the characters beside them (CommonMark 0.31.2, section 6.2).
+//! Runs of delimiters, and which may open or close emphasis or strikethrough by the characters beside them (CommonMark 0.31.2, section
+//! 6.2; GFM 0.29, section 6.5).
 ghost use Rattle.std.specs.Prelude.{◌≡◌, ℕ, suc, Some, true, ◌||◌, ◌==◌, ◌∷◌, chars, OnOk};
 ghost use Rattle.doc_rules.specs.Characters.{first_or, last_or};
 ghost use Rattle.doc_rules.specs.Parsers.{before, many};
 ghost use Rattle.doc_rules.specs.Emphasis.{run_between};
-ghost use Rattle.doc_rules.specs.Emphasis as rules;
-ghost use Rattle.doc_rules.specs.Entities.{Table};
+ghost use Rattle.doc_rules.specs.Emphasis as specs;
+ghost use Rattle.doc_rules.specs.Rules.{Rules};
 ghost use Rattle.doc_rules.specs.Inlines.{Delimiters};
 ghost use Rattle.doc_rules.specs.Rests.{IsRest};
 ghost use Rattle.doc_refs_parts.specs.Targets.{Targets};
 ghost use Rattle.doc_inlines_emphasis.specs.Texts.{IsRunText};
 ghost use Rattle.doc_inlines.specs.DraftSteps.{IsRunOf};
+ghost use Rattle.doc_inlines.specs.TildeSteps.{BeginsRun, IsRead};
 ghost use Rattle.doc_inlines.specs.ReaderSteps.{IsReader, GoesOn, state_made};
 
 use crate::classes::{is_punctuation, is_white};
 use crate::reader::Reader;
-use doc_lines::scan::character::{last_char, next_char};
+use doc_inlines_emphasis::Delimiter;
+use doc_lines::entities::Entities;
+use doc_lines::scan::character::{is, last_char, next_char};
 use doc_lines::scan::front::front;
 use doc_lines::scan::run::many;
 use doc_page_parts::failure::Memory;
 
 impl<'t, 'r> Reader<'t, 'r> {
-    /// A run of `*` or `_`: each delimiter has a mark of its own.
-    pub(crate) fn delimiters(&mut self, c: char, behind: &'t str) -> Result<(), Memory>
+    /// A run of a character: each delimiter has a mark of its own.
+    pub(crate) fn delimiters(
+        &mut self,
+        c: char,
+        own: Delimiter,
+        behind: &'t str,
+    ) -> Result<(), Memory>
         requires sound { IsReader self.old }
         requires first { chars self.old.rest.now ≡ c ∷ chars behind.now }
-        requires delimiter { ((c == 42) || (c == 95)) ≡ true }
-        ensures { OnOk result ((table : Table) (targets : Targets)
-            → GoesOn table targets self.old self.new) }
+        requires delimiter { BeginsRun c own (chars behind.now) }
+        ensures { OnOk result ((rules : Rules) (targets : Targets) → IsRead rules c (chars behind.now)
+            → GoesOn rules targets self.old self.new) }
     {
         let next = behind_run(behind, c);
         let run = front(self.rest, next);
@@ -34,7 +43,39 @@ impl<'t, 'r> Reader<'t, 'r> {
         let first = first_or_line(next);
         let opens = opens(c, last, first);
         let closes = closes(c, last, first);
-        self.put_run(run, opens, closes, next)?;
+        self.put_run(run, own, opens, closes, next)?;
+        Ok(())
+    }
+
+    /// A `~`, where strikethrough is read: one or two are a run, more are text.
+    pub(crate) fn tilde(&mut self, entities: &Entities, behind: &'t str) -> Result<(), Memory>
+        requires sound { IsReader self.old }
+        requires first { chars self.old.rest.now ≡ 126 ∷ chars behind.now }
+        ensures { OnOk result ((targets : Targets)
+            → GoesOn entities.now targets self.old self.new) }
+    {
+        if !entities.strikethrough() {
+            self.plain(entities, '~', behind);
+            return Ok(());
+        }
+        self.tildes(behind)
+    }
+
+    fn tildes(&mut self, behind: &'t str) -> Result<(), Memory>
+        requires sound { IsReader self.old }
+        requires first { chars self.old.rest.now ≡ 126 ∷ chars behind.now }
+        ensures { OnOk result ((rules : Rules) (targets : Targets) → rules.strikethrough ≡ true
+            → GoesOn rules targets self.old self.new) }
+    {
+        let Some(second) = is(behind, '~') else {
+            self.delimiters('~', Delimiter::Tilde, behind)?;
+            return Ok(());
+        };
+        let Some(third) = is(second, '~') else {
+            self.delimiters('~', Delimiter::TwoTildes, behind)?;
+            return Ok(());
+        };
+        self.pass(behind_run(third, '~'));
         Ok(())
     }
 
@@ -42,12 +83,13 @@ impl<'t, 'r> Reader<'t, 'r> {
     fn put_run(
         &mut self,
         run: &'t str,
+        own: Delimiter,
         opens: bool,
         closes: bool,
         rest: &'t str,
     ) -> Result<(), Memory>
         requires sound { IsReader self.old }
-        requires text { IsRunText (chars run.now) }
+        requires text { IsRunText own (chars run.now) }
         requires behind { IsRest (chars rest.now) (chars self.old.rest.now) }
         requires stands { chars run.now ≡ before (chars rest.now) (chars self.old.rest.now) }
         ensures text { OnOk result (self.new.text ≡ self.old.text) }
@@ -59,7 +101,7 @@ impl<'t, 'r> Reader<'t, 'r> {
         ensures sound { OnOk result (IsReader self.new) }
     {
         self.flush()?;
-        self.draft.put_run(run, opens, closes)?;
+        self.draft.put_run(run, own, opens, closes)?;
         self.rest = rest;
         self.plain = rest;
         Ok(())
@@ -85,7 +127,7 @@ fn first_or_line(text: &str) -> char
 }
 
 /// The last character of a text, or a line ending where there is none.
-fn last_or_line(text: &str) -> char
+pub(crate) fn last_or_line(text: &str) -> char
     ensures { result ≡ last_or 10 (chars text.now) }
 {
     match last_char(text) {
@@ -96,7 +138,7 @@ fn last_or_line(text: &str) -> char
 
 /// Whether a run is flanking at the side of the first character.
 fn is_flanking(near: char, far: char) -> bool
-    ensures { result ≡ rules.is_flanking near far }
+    ensures { result ≡ specs.is_flanking near far }
 {
     !is_white(near) && (!is_punctuation(near) || (is_white(far) || is_punctuation(far)))
 }
@@ -106,7 +148,7 @@ fn is_flanking(near: char, far: char) -> bool
 fn opens(c: char, last: char, next: char) -> bool
     ensures { (n : ℕ) → result ≡ (run_between c n last next).opens }
 {
-    is_flanking(next, last) && (c == '*' || !is_flanking(last, next) || is_punctuation(last))
+    is_flanking(next, last) && (c != '_' || !is_flanking(last, next) || is_punctuation(last))
 }
 
 /// Whether a run of this character may close emphasis, between these two characters.
@@ -114,5 +156,5 @@ fn opens(c: char, last: char, next: char) -> bool
 fn closes(c: char, last: char, next: char) -> bool
     ensures { (n : ℕ) → result ≡ (run_between c n last next).closes }
 {
-    is_flanking(last, next) && (c == '*' || !is_flanking(next, last) || is_punctuation(next))
+    is_flanking(last, next) && (c != '_' || !is_flanking(next, last) || is_punctuation(next))
 }

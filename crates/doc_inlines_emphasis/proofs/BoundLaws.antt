@@ -10,7 +10,7 @@ use Rattle.std.proofs.lemmas.Grind.{get_or-set_at}
 use Rattle.std.proofs.lemmas.Bool.Decides.{eqb_tells}
 use Rattle.doc_rules.specs.Inlines.{Run}
 use Rattle.doc_rules.specs.Emphasis.{opens_and_closes, is_multiple_of_3, matches}
-use Rattle.doc_inlines_emphasis.specs.Openers.{closer_kind, IsCloser, misses, MissedFrom, NearestIs, nearest, nearest_above, AreBounds, Ascend}
+use Rattle.doc_inlines_emphasis.specs.Openers.{closer_kind, IsEmphasis, IsStrike, IsDelimiter, IsCloser, misses, MissedFrom, NearestIs, nearest, nearest_above, AreBounds, Ascend}
 use Rattle.doc_inlines_emphasis.specs.Openers.{StandBefore, AllOpen, ReachTo, OpenAlike}
 use Rattle.doc_inlines_emphasis.specs.Laws.{BoundsSuffice}
 
@@ -46,10 +46,7 @@ decoded false false r true true s h g e = absurd (omega arith)
 decoded false false r true false s h g e = absurd (omega arith)
 decoded false false r false true s h g e = absurd (omega arith)
 
-abbrev Either : ℕ → Type 0
-Either c = (c ≡ 42) ⊎ (c ≡ 95)
-
-same_char : (c d : ℕ) → Either c → Either d → (c == 42) ≡ (d == 42) → c ≡ d
+same_char : (c d : ℕ) → IsEmphasis c → IsEmphasis d → (c == 42) ≡ (d == 42) → c ≡ d
 same_char c d (inl p) (inl q) e = p ∙ sym q
 same_char c d (inr p) (inr q) e = p ∙ sym q
 same_char c d (inl p) (inr q) e = let f : (42 == 42) ≡ (95 == 42) = ap (λ n. n == 42) (sym p) ∙ (e ∙ ap (λ n. n == 42) q) in absurd cc
@@ -58,15 +55,47 @@ same_char c d (inr p) (inl q) e = let f : (95 == 42) ≡ (42 == 42) = ap (λ n. 
 same_sum : (o c d : ℕ) → c % 3 ≡ d % 3 → (o + c) % 3 ≡ (o + d) % 3
 same_sum o c d e = omega arith
 
--- a match asks no more of a closer than its kind
-pub same_kind : (o c d : Run) → IsCloser c → IsCloser d → closer_kind c ≡ closer_kind d → matches o c ≡ matches o d
-unfolding matches closer_kind
-same_kind o c d h g e =
+no_tilde : (c : ℕ) → IsEmphasis c → (c == 126) ≡ false
+no_tilde c (inl e) = ap (λ k. k == 126) e
+no_tilde c (inr e) = ap (λ k. k == 126) e
+
+is_tilde : (c : ℕ) → c ≡ 126 → (c == 126) ≡ true
+is_tilde c e = ap (λ k. k == 126) e
+
+emphasis_match : (o c : Run) → IsEmphasis c.char →
+    matches o c ≡ by_closer o c.char c.opens c.closes (is_multiple_of_3 (o.length + c.length)) (is_multiple_of_3 c.length)
+unfolding matches
+emphasis_match o c h =
+    ap (λ m. ((o.char == c.char) && (o.opens && c.closes)) && (if m then o.length == c.length else
+    (not ((opens_and_closes o || opens_and_closes c) && is_multiple_of_3 (o.length + c.length)) ||
+    (is_multiple_of_3 o.length && is_multiple_of_3 c.length)))) (no_tilde c.char h)
+
+emphasis_kind : (c : Run) → IsEmphasis c.char → closer_kind c ≡ coded (c.char == 42) c.opens (c.length % 3)
+unfolding closer_kind
+emphasis_kind c h =
+    ap (λ m. if m then if c.length == 2 then 13 else 12 else coded (c.char == 42) c.opens (c.length % 3)) (no_tilde c.char h)
+
+strike_match : (o c : Run) → c.char ≡ 126 → matches o c ≡ ((o.char == 126) && (o.opens && c.closes)) && (o.length == c.length)
+unfolding matches
+strike_match o c e =
+    ap (λ k. ((o.char == k) && (o.opens && c.closes)) && (if k == 126 then o.length == c.length else
+    (not ((opens_and_closes o || opens_and_closes c) && is_multiple_of_3 (o.length + c.length)) ||
+    (is_multiple_of_3 o.length && is_multiple_of_3 c.length)))) e
+
+strike_kind : (c : Run) → c.char ≡ 126 → closer_kind c ≡ (if c.length == 2 then 13 else 12)
+unfolding closer_kind
+strike_kind c e =
+    ap (λ m. if m then if c.length == 2 then 13 else 12 else coded (c.char == 42) c.opens (c.length % 3)) (is_tilde c.char e)
+
+same_emphasis : (o c d : Run) → c.closes ≡ d.closes → IsEmphasis c.char → IsEmphasis d.char →
+    coded (c.char == 42) c.opens (c.length % 3) ≡ coded (d.char == 42) d.opens (d.length % 3) →
+    by_closer o c.char c.opens c.closes (is_multiple_of_3 (o.length + c.length)) (is_multiple_of_3 c.length)
+    ≡ by_closer o d.char d.opens d.closes (is_multiple_of_3 (o.length + d.length)) (is_multiple_of_3 d.length)
+same_emphasis o c d closes h g e =
     let parts : Equal (c.char == 42) c.opens (c.length % 3) (d.char == 42) d.opens (d.length % 3) =
     decoded (c.char == 42) c.opens (c.length % 3) (d.char == 42) d.opens (d.length % 3) (mod-lt c.length (omega arith))
     (mod-lt d.length (omega arith)) e in
-    let chars : c.char ≡ d.char = same_char c.char d.char h.1 g.1 parts.0 in
-    let closes : c.closes ≡ d.closes = h.0 ∙ sym g.0 in
+    let chars : c.char ≡ d.char = same_char c.char d.char h g parts.0 in
     let sums : is_multiple_of_3 (o.length + c.length) ≡ is_multiple_of_3 (o.length + d.length) = ap (λ n. n == 0)
     (same_sum o.length c.length d.length parts.2) in
     let owns : is_multiple_of_3 c.length ≡ is_multiple_of_3 d.length = ap (λ n. n == 0) parts.2 in
@@ -75,10 +104,64 @@ same_kind o c d h g e =
     ∙ (ap (λ x. by_closer o d.char d.opens x (is_multiple_of_3 (o.length + c.length)) (is_multiple_of_3 c.length)) closes
     ∙ ap₂ (λ x y. by_closer o d.char d.opens d.closes x y) sums owns))
 
+-- one or two, by the kind
+abbrev strike : ℕ → ℕ
+strike n = if n == 2 then 13 else 12
+
+same_length : (n m : ℕ) → (n ≡ 1) ⊎ (n ≡ 2) → (m ≡ 1) ⊎ (m ≡ 2) → strike n ≡ strike m → n ≡ m
+same_length n m (inl p) (inl q) e = p ∙ sym q
+same_length n m (inr p) (inr q) e = p ∙ sym q
+same_length n m (inl p) (inr q) e =
+    let f : ◌≡◌ {A = ℕ} 12 13 = ap strike (sym p) ∙ (e ∙ ap strike q) in
+    absurd (omega arith)
+same_length n m (inr p) (inl q) e =
+    let f : ◌≡◌ {A = ℕ} 13 12 = ap strike (sym p) ∙ (e ∙ ap strike q) in
+    absurd (omega arith)
+
+below_six : (opens : Bool) (r : ℕ) → r < 3 → (if opens then 3 else 0) + r < 6
+below_six true r h = omega arith
+below_six false r h = omega arith
+
+below_twelve : (star opens : Bool) (r : ℕ) → r < 3 → coded star opens r < 12
+below_twelve true opens r h = let f : (if opens then 3 else 0) + r < 6 = below_six opens r h in omega arith
+below_twelve false opens r h = let f : (if opens then 3 else 0) + r < 6 = below_six opens r h in omega arith
+
+twelve_at_least : (m : Bool) → 12 ≤ (if m then 13 else 12)
+twelve_at_least true = omega arith
+twelve_at_least false = omega arith
+
+-- a kind is of '~' or of the others
+kinds_apart : (c d : Run) → coded (c.char == 42) c.opens (c.length % 3) ≡ (if d.length == 2 then 13 else 12) → ⊥
+kinds_apart c d e =
+    let f : coded (c.char == 42) c.opens (c.length % 3) < 12 = below_twelve (c.char == 42) c.opens (c.length % 3)
+    (mod-lt c.length (omega arith)) in
+    let g : 12 ≤ (if d.length == 2 then 13 else 12) = twelve_at_least (d.length == 2) in
+    absurd (omega arith)
+
+-- a match asks no more of a closer than its kind
+pub same_kind : (o c d : Run) → IsCloser c → IsCloser d → closer_kind c ≡ closer_kind d → matches o c ≡ matches o d
+same_kind o c d h g e = by h.1 g.1
+  where
+    closes : c.closes ≡ d.closes
+    closes = h.0 ∙ sym g.0
+
+    by : IsDelimiter c.char c.length → IsDelimiter d.char d.length → matches o c ≡ matches o d
+    by (inl p) (inl q) =
+        emphasis_match o c p
+        ∙ (same_emphasis o c d closes p q (sym (emphasis_kind c p) ∙ (e ∙ emphasis_kind d q)) ∙ sym (emphasis_match o d q))
+    by (inl p) (inr q) = absurd (kinds_apart c d (sym (emphasis_kind c p) ∙ (e ∙ strike_kind d q.0)))
+    by (inr p) (inl q) = absurd (kinds_apart d c (sym (emphasis_kind d q) ∙ (sym e ∙ strike_kind c p.0)))
+    by (inr p) (inr q) =
+        let lengths : c.length ≡ d.length = same_length c.length d.length p.1 q.1
+        (sym (strike_kind c p.0) ∙ (e ∙ strike_kind d q.0)) in
+        strike_match o c p.0
+        ∙ (ap₂ (λ x n. ((o.char == 126) && (o.opens && x)) && (o.length == n)) closes lengths ∙ sym (strike_match o d q.0))
+
 abbrev by_opener : Run → ℕ → ℕ → Bool → Bool → Bool
 by_opener c char size opens closes =
-    ((char == c.char) && (opens && c.closes)) && (not (((opens && closes) || opens_and_closes c) && is_multiple_of_3 (size + c.length)) ||
-    (is_multiple_of_3 size && is_multiple_of_3 c.length))
+    ((char == c.char) && (opens && c.closes)) && (if c.char == 126 then size == c.length else
+    (not (((opens && closes) || opens_and_closes c) && is_multiple_of_3 (size + c.length)) ||
+    (is_multiple_of_3 size && is_multiple_of_3 c.length)))
 
 -- and nothing of an opener that a pair changes
 pub same_opener : (one other c : Run) → OpenAlike one other → matches one c ≡ matches other c
@@ -335,18 +418,20 @@ open_pushed runs openers number h e place less = at (last_or_before openers numb
     at (inl p) = ap (λ k. (runs k).opens) p.1 ∙ h place p.0
     at (inr p) = ap (λ k. (runs k).opens) p.1 ∙ e
 
--- ---- twelve bounds
+-- ---- fourteen bounds
 
-below_twelve : (a b : Bool) (r : ℕ) → r < 3 → coded a b r < 12
-below_twelve true true r h = omega arith
-below_twelve true false r h = omega arith
-below_twelve false true r h = omega arith
-below_twelve false false r h = omega arith
-
--- there are 12 kinds of closers
-pub kind_below : (c : Run) → closer_kind c < 12
+-- there are 14 kinds of closers
+pub kind_below : (c : Run) → closer_kind c < 14
 unfolding closer_kind
-kind_below c = below_twelve (c.char == 42) c.opens (c.length % 3) (mod-lt c.length (omega arith))
+kind_below c = by (c.char == 126) (c.length == 2)
+  where
+    by : (m k : Bool) → (if m then if k then 13 else 12 else coded (c.char == 42) c.opens (c.length % 3)) < 14
+    by true true = omega arith
+    by true false = omega arith
+    by false k =
+        let h : coded (c.char == 42) c.opens (c.length % 3) < 12 = below_twelve (c.char == 42) c.opens (c.length % 3)
+        (mod-lt c.length (omega arith)) in
+        omega arith
 
 zero_at : (n k : ℕ) → slice_index (replicate n 0) k ≡ 0
 zero_at zero k = refl

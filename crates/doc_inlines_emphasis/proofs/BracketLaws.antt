@@ -95,34 +95,32 @@ plain_kept r b = at r.opens
     at true = refl
     at false = text_behind r.left r.char b
 
-plain_pair : (o : Opener) (n : ℕ) → plain_behind (behind_pair o n) ≡ behind_pair (plain_opener o) n
+plain_pair : (o : Opener) (c n : ℕ) → plain_behind (behind_pair o c n) ≡ behind_pair (plain_opener o) c n
 unfolding plain_behind
-plain_pair o n =
-    let z : List Inline = Start (span_of n) ∷ (less n o.run ++ o.before) in
-    let y : List Inline = Start (span_of n) ∷ (less n o.run ++ plain_behind o.before) in
+plain_pair o c n =
+    let z : List Inline = Start (span_of c n) ∷ (less n o.run ++ o.before) in
+    let y : List Inline = Start (span_of c n) ∷ (less n o.run ++ plain_behind o.before) in
     let inside : plain_behind (reverse o.between ++ z) ≡ reverse (plain_brackets o.between) ++ y =
     ap plain_behind (sym (onto_reverse o.between z))
-    ∙ (plain_onto o.between z ∙ (ap (λ t. onto (plain_brackets o.between) (Start (span_of n) ∷ t)) (plain_less n o.run o.before)
+    ∙ (plain_onto o.between z ∙ (ap (λ t. onto (plain_brackets o.between) (Start (span_of c n) ∷ t)) (plain_less n o.run o.before)
     ∙ onto_reverse (plain_brackets o.between) y)) in
-    ap (λ t. End (span_of n) ∷ t) inside
+    ap (λ t. End (span_of c n) ∷ t) inside
 
 -- ---- a run
 
 plain_left : (n : ℕ) (r : Run) (o : Opener) (k : ℕ) → ((next : Run) (b : List Inline)
     → closed n next (plain_behind b) ≡ plain_behind (closed n next b)) → (m : Bool) →
     elim m as (λ _. List Inline) [
-      | true ↦ closed n (record r { left = r.left - k }) (behind_pair (plain_opener o) k)
-      | false ↦ behind_pair
-          (plain_opener o) k
+      | true ↦ closed n (record r { left = r.left - k }) (behind_pair (plain_opener o) r.char k)
+      | false ↦ behind_pair (plain_opener o) r.char k
     ]
     ≡ plain_behind (elim m as (λ _. List Inline) [
-      | true ↦ closed n (record r { left = r.left - k }) (behind_pair o k)
-      | false ↦ behind_pair
-          o k
+      | true ↦ closed n (record r { left = r.left - k }) (behind_pair o r.char k)
+      | false ↦ behind_pair o r.char k
     ])
-plain_left n r o k more true = ap (closed n (record r { left = r.left - k })) (sym (plain_pair o k))
-    ∙ more (record r { left = r.left - k }) (behind_pair o k)
-plain_left n r o k more false = sym (plain_pair o k)
+plain_left n r o k more true = ap (closed n (record r { left = r.left - k })) (sym (plain_pair o r.char k))
+    ∙ more (record r { left = r.left - k }) (behind_pair o r.char k)
+plain_left n r o k more false = sym (plain_pair o r.char k)
 
 plain_found : (n : ℕ) (r : Run) (b : List Inline) → ((next : Run) (b : List Inline)
     → closed n next (plain_behind b) ≡ plain_behind (closed n next b)) →

@@ -19,62 +19,62 @@ use Rattle.doc_inlines_emphasis.proofs.Walks.{walks_first, closes_first, closes_
 
 -- ---- a pair of marks
 
-abbrev a_start : ℕ → List Inline
-a_start n = Start (span_of n) ∷ []
+abbrev a_start : ℕ → ℕ → List Inline
+a_start c n = Start (span_of c n) ∷ []
 
-abbrev an_end : ℕ → List Inline
-an_end n = End (span_of n) ∷ []
+abbrev an_end : ℕ → ℕ → List Inline
+an_end c n = End (span_of c n) ∷ []
 
-paired_length : (marks : Marks) (s t n : ℕ) → length (paired marks s t n) ≡ length marks
+paired_length : (marks : Marks) (s t c n : ℕ) → length (paired marks s t c n) ≡ length marks
 unfolding paired
-paired_length marks s t n = at (n == 2)
+paired_length marks s t c n = at (n == 2)
   where
     ends : Marks
-    ends = set (set marks s (a_start n)) t (an_end n)
+    ends = set (set marks s (a_start c n)) t (an_end c n)
 
     same : length ends ≡ length marks
-    same = length-set (set marks s (a_start n)) t (an_end n) ∙ length-set marks s (a_start n)
+    same = length-set (set marks s (a_start c n)) t (an_end c n) ∙ length-set marks s (a_start c n)
 
     at : (m : Bool) → length (elim m as (λ _. Marks) [ true ↦ set (set ends (suc s) []) (suc t) [] | false ↦ ends ]) ≡ length marks
     at true = length-set (set ends (suc s) []) (suc t) [] ∙ (length-set ends (suc s) [] ∙ same)
     at false = same
 
-paired_one : (marks : Marks) (s t : ℕ) → s + 1 ≤ t → t + 1 ≤ length marks → IsPaired marks (paired marks s t 1) s t 1
+paired_one : (marks : Marks) (s t c : ℕ) → s + 1 ≤ t → t + 1 ≤ length marks → IsPaired marks (paired marks s t c 1) s t c 1
 unfolding paired
-paired_one marks s t h g =
-    let first : Marks = set marks s (a_start 1) in
-    let size : length (set marks s (a_start 1)) ≡ length marks = length-set marks s (a_start 1) in
+paired_one marks s t c h g =
+    let first : Marks = set marks s (a_start c 1) in
+    let size : length (set marks s (a_start c 1)) ≡ length marks = length-set marks s (a_start c 1) in
     let apart : s ≢ t = omega arith in
     record {
-      start = get_or-set_other first t s (an_end 1) [] apart ∙ get_or-set_same marks s (a_start 1) [] (omega arith);
+      start = get_or-set_other first t s (an_end c 1) [] apart ∙ get_or-set_same marks s (a_start c 1) [] (omega arith);
       start_second = λ e. absurd (omega arith);
-      stop = get_or-set_same first t (an_end 1) [] (omega arith);
+      stop = get_or-set_same first t (an_end c 1) [] (omega arith);
       stop_second = λ e. absurd (omega arith);
       before = λ i l. both i (omega arith) (omega arith);
       between = λ i l k. both i (omega arith) (omega arith);
       behind = λ i l. both i (omega arith) (omega arith);
     }
   where
-    both : (i : ℕ) → i ≢ s → i ≢ t → get_or marks i [] ≡ get_or (set (set marks s (a_start 1)) t (an_end 1)) i []
-    both i d e = sym (get_or-set_other (set marks s (a_start 1)) t i (an_end 1) [] e ∙ get_or-set_other marks s i (a_start 1) [] d)
+    both : (i : ℕ) → i ≢ s → i ≢ t → get_or marks i [] ≡ get_or (set (set marks s (a_start c 1)) t (an_end c 1)) i []
+    both i d e = sym (get_or-set_other (set marks s (a_start c 1)) t i (an_end c 1) [] e ∙ get_or-set_other marks s i (a_start c 1) [] d)
 
-paired_two : (marks : Marks) (s t : ℕ) → s + 2 ≤ t → t + 2 ≤ length marks → IsPaired marks (paired marks s t 2) s t 2
+paired_two : (marks : Marks) (s t c : ℕ) → s + 2 ≤ t → t + 2 ≤ length marks → IsPaired marks (paired marks s t c 2) s t c 2
 unfolding paired
-paired_two marks s t h g =
-    let first : Marks = set marks s (a_start 2) in
-    let second : Marks = set first t (an_end 2) in
+paired_two marks s t c h g =
+    let first : Marks = set marks s (a_start c 2) in
+    let second : Marks = set first t (an_end c 2) in
     let third : Marks = set second (suc s) [] in
-    let one : length (set marks s (a_start 2)) ≡ length marks = length-set marks s (a_start 2) in
-    let two : length (set (set marks s (a_start 2)) t (an_end 2)) ≡ length (set marks s (a_start 2)) = length-set first t (an_end 2) in
-    let three : length (set (set (set marks s (a_start 2)) t (an_end 2)) (suc s) [])
-    ≡ length (set (set marks s (a_start 2)) t (an_end 2)) = length-set second (suc s) [] in
+    let one : length (set marks s (a_start c 2)) ≡ length marks = length-set marks s (a_start c 2) in
+    let two : length (set (set marks s (a_start c 2)) t (an_end c 2)) ≡ length (set marks s (a_start c 2)) = length-set first t (an_end c 2) in
+    let three : length (set (set (set marks s (a_start c 2)) t (an_end c 2)) (suc s) [])
+    ≡ length (set (set marks s (a_start c 2)) t (an_end c 2)) = length-set second (suc s) [] in
     record {
       start = get_or-set_other third (suc t) s [] [] (omega arith)
           ∙ (get_or-set_other second (suc s) s [] [] (omega arith)
-          ∙ (get_or-set_other first t s (an_end 2) [] (omega arith) ∙ get_or-set_same marks s (a_start 2) [] (omega arith)));
+          ∙ (get_or-set_other first t s (an_end c 2) [] (omega arith) ∙ get_or-set_same marks s (a_start c 2) [] (omega arith)));
       start_second = λ e. get_or-set_other third (suc t) (suc s) [] [] (omega arith) ∙ get_or-set_same second (suc s) [] [] (omega arith);
       stop = get_or-set_other third (suc t) t [] [] (omega arith)
-          ∙ (get_or-set_other second (suc s) t [] [] (omega arith) ∙ get_or-set_same first t (an_end 2) [] (omega arith));
+          ∙ (get_or-set_other second (suc s) t [] [] (omega arith) ∙ get_or-set_same first t (an_end c 2) [] (omega arith));
       stop_second = λ e. get_or-set_same third (suc t) [] [] (omega arith);
       before = λ i l. all i (omega arith) (omega arith) (omega arith) (omega arith);
       between = λ i l k. all i (omega arith) (omega arith) (omega arith) (omega arith);
@@ -82,18 +82,19 @@ paired_two marks s t h g =
     }
   where
     all : (i : ℕ) → i ≢ s → i ≢ t → i ≢ suc s → i ≢ suc t
-        → get_or marks i [] ≡ get_or (set (set (set (set marks s (a_start 2)) t (an_end 2)) (suc s) []) (suc t) []) i []
+        → get_or marks i [] ≡ get_or (set (set (set (set marks s (a_start c 2)) t (an_end c 2)) (suc s) []) (suc t) []) i []
     all i d e f k =
-        sym (get_or-set_other (set (set (set marks s (a_start 2)) t (an_end 2)) (suc s) []) (suc t) i [] [] k
-        ∙ (get_or-set_other (set (set marks s (a_start 2)) t (an_end 2)) (suc s) i [] [] f
-        ∙ (get_or-set_other (set marks s (a_start 2)) t i (an_end 2) [] e ∙ get_or-set_other marks s i (a_start 2) [] d)))
+        sym (get_or-set_other (set (set (set marks s (a_start c 2)) t (an_end c 2)) (suc s) []) (suc t) i [] [] k
+        ∙ (get_or-set_other (set (set marks s (a_start c 2)) t (an_end c 2)) (suc s) i [] [] f
+        ∙ (get_or-set_other (set marks s (a_start c 2)) t i (an_end c 2) [] e ∙ get_or-set_other marks s i (a_start c 2) [] d)))
 
 -- the marks of a pair, written one after another
-pub paired_is : (marks : Marks) (s t n : ℕ) → OneOrTwo n → s + n ≤ t → t + n ≤ length marks → IsPaired marks (paired marks s t n) s t n
-paired_is marks s t n (inl e) h g = subst (λ k. IsPaired marks (paired marks s t k) s t k) (sym e)
-    (paired_one marks s t (omega arith) (omega arith))
-paired_is marks s t n (inr e) h g = subst (λ k. IsPaired marks (paired marks s t k) s t k) (sym e)
-    (paired_two marks s t (omega arith) (omega arith))
+pub paired_is : (marks : Marks) (s t c n : ℕ) → OneOrTwo n → s + n ≤ t → t + n ≤ length marks
+    → IsPaired marks (paired marks s t c n) s t c n
+paired_is marks s t c n (inl e) h g = subst (λ k. IsPaired marks (paired marks s t c k) s t c k) (sym e)
+    (paired_one marks s t c (omega arith) (omega arith))
+paired_is marks s t c n (inr e) h g = subst (λ k. IsPaired marks (paired marks s t c k) s t c k) (sym e)
+    (paired_two marks s t c (omega arith) (omega arith))
 
 -- ---- the nearest opener on the stack
 
@@ -151,9 +152,9 @@ pair_closes a b s found rest goal h size l near =
     let fits = strength_fits o.run c.run own.0 l in
     let mine : strength found.opener.run s.closer.run ≤ found.opener.run.left = fits.1 in
     let small : strength found.opener.run s.closer.run ≤ s.closer.run.left = fits.2 in
-    closes_pair s.marks (paired s.marks (o.first + (o.run.left - n)) c.first n) a b found.lower o near.upper c rest goal split l
+    closes_pair s.marks (paired s.marks (o.first + (o.run.left - n)) c.first c.run.char n) a b found.lower o near.upper c rest goal split l
     near.misses near.matched
-    (paired_is s.marks (o.first + (o.run.left - n)) c.first n fits.0 (omega arith) (omega arith))
+    (paired_is s.marks (o.first + (o.run.left - n)) c.first c.run.char n fits.0 (omega arith) (omega arith))
 
 closed_search : (a b n : ℕ) (s : Closing) (rest : List Placed) (goal : List Inline) → s.closer.run.left ≤ suc n → 1 ≤ s.closer.run.left
     → Closes s.marks a b s.stack s.closer rest goal → b ≤ length s.marks →
@@ -166,7 +167,7 @@ closed_search a b n s rest goal k l h size more (Some f) near =
     let one : 1 ≤ strength f.opener.run s.closer.run = strong_counts (nat_le 2 f.opener.run.left && nat_le 2 s.closer.run.left) in
     more (pair_in_place s f) (omega arith) (pair_closes a b s f rest goal h size l near)
     (subst (λ m. b ≤ m) (sym (paired_length s.marks (f.opener.first + (f.opener.run.left - strength f.opener.run s.closer.run))
-    s.closer.first (strength f.opener.run s.closer.run))) size)
+    s.closer.first s.closer.run.char (strength f.opener.run s.closer.run))) size)
 
 closed_left : (a b n : ℕ) (s : Closing) (rest : List Placed) (goal : List Inline) → s.closer.run.left ≤ suc n
     → Closes s.marks a b s.stack s.closer rest goal → b ≤ length s.marks →
@@ -212,9 +213,9 @@ in_place_suffices marks a b runs plain placed size =
 -- ---- what stands before stays
 
 -- a pair changes no mark before the first of the runs
-pub pair_before : (marks next : Marks) (a b : ℕ) (lower : List Placed) (o : Placed) (upper : List Placed) (n : ℕ)
+pub pair_before : (marks next : Marks) (a b : ℕ) (lower : List Placed) (o : Placed) (upper : List Placed) (d n : ℕ)
     → ArePlaced marks a b (lower ++ (o ∷ upper)) →
-    IsPaired marks next (o.first + (o.run.left - n)) b n → (i : ℕ) → i < a → get_or marks i [] ≡ get_or next i []
-pair_before marks next a b lower o upper n h p i l =
+    IsPaired marks next (o.first + (o.run.left - n)) b d n → (i : ℕ) → i < a → get_or marks i [] ≡ get_or next i []
+pair_before marks next a b lower o upper d n h p i l =
     let f : a ≤ o.first = placed_order marks a o.first lower (placed_front marks a b lower o upper h) in
     p.before i (omega arith)

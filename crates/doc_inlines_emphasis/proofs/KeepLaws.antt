@@ -109,31 +109,33 @@ one_set marks xs i mark x h g = map-set inlines_in marks i mark ∙ ap₂ (λ ys
 abbrev two_ends : List MarkRef → ℕ → ℕ → SpanRef → SpanRef → List MarkRef
 two_ends marks o c s e = set (set marks o (Start s)) c (End e)
 
-ends_shown : (marks : List MarkRef) (o c n : ℕ) (s e : SpanRef) → span_shown s ≡ span_of n → span_shown e ≡ span_of n →
-    marks_shown (two_ends marks o c s e) ≡ set (set (marks_shown marks) o (inlines.Start (span_of n) ∷ [])) c (inlines.End (span_of n) ∷ [])
+ends_shown : (marks : List MarkRef) (o c d n : ℕ) (s e : SpanRef) → span_shown s ≡ span_of d n → span_shown e ≡ span_of d n →
+    marks_shown (two_ends marks o c s e)
+    ≡ set (set (marks_shown marks) o (inlines.Start (span_of d n) ∷ [])) c (inlines.End (span_of d n) ∷ [])
 unfolding inlines_in
-ends_shown marks o c n s e h g =
-    one_set (set marks o (Start s)) (set (marks_shown marks) o (inlines.Start (span_of n) ∷ [])) c (End e) (inlines.End (span_of n) ∷ [])
-    (one_set marks (marks_shown marks) o (Start s) (inlines.Start (span_of n) ∷ []) refl (ap (λ x. inlines.Start x ∷ []) h))
+ends_shown marks o c d n s e h g =
+    one_set (set marks o (Start s)) (set (marks_shown marks) o (inlines.Start (span_of d n) ∷ [])) c (End e) (inlines.End (span_of d n) ∷ [])
+    (one_set marks (marks_shown marks) o (Start s) (inlines.Start (span_of d n) ∷ []) refl (ap (λ x. inlines.Start x ∷ []) h))
     (ap (λ x. inlines.End x ∷ []) g)
 
-pub one_shown : (marks : List MarkRef) (o c n : ℕ) (s e : SpanRef) → span_shown s ≡ span_of n → span_shown e ≡ span_of n
+pub one_shown : (marks : List MarkRef) (o c d n : ℕ) (s e : SpanRef) → span_shown s ≡ span_of d n → span_shown e ≡ span_of d n
     → (n == 2) ≡ false →
-    marks_shown (two_ends marks o c s e) ≡ paired (marks_shown marks) o c n
+    marks_shown (two_ends marks o c s e) ≡ paired (marks_shown marks) o c d n
 unfolding paired
-one_shown marks o c n s e h g f =
-    let ends : delimiters.Marks = set (set (marks_shown marks) o (inlines.Start (span_of n) ∷ [])) c (inlines.End (span_of n) ∷ []) in
-    ends_shown marks o c n s e h g
+one_shown marks o c d n s e h g f =
+    let ends : delimiters.Marks = set (set (marks_shown marks) o (inlines.Start (span_of d n) ∷ [])) c (inlines.End (span_of d n) ∷ []) in
+    ends_shown marks o c d n s e h g
     ∙ sym (ap (λ m. elim m as (λ _. delimiters.Marks) [ true ↦ set (set ends (suc o) []) (suc c) [] | false ↦ ends ]) f)
 
-pub two_shown : (marks : List MarkRef) (o c n p q : ℕ) (s e : SpanRef) (t u : MarkRef) → span_shown s ≡ span_of n → span_shown e ≡ span_of n
+pub two_shown : (marks : List MarkRef) (o c d n p q : ℕ) (s e : SpanRef) (t u : MarkRef) → span_shown s ≡ span_of d n
+    → span_shown e ≡ span_of d n
     → (n == 2) ≡ true → p ≡ suc o → q ≡ suc c → IsEmpty t → IsEmpty u →
-    marks_shown (set (set (two_ends marks o c s e) p t) q u) ≡ paired (marks_shown marks) o c n
+    marks_shown (set (set (two_ends marks o c s e) p t) q u) ≡ paired (marks_shown marks) o c d n
 unfolding paired
-two_shown marks o c n p q s e t u h g f i j a b =
-    let ends : delimiters.Marks = set (set (marks_shown marks) o (inlines.Start (span_of n) ∷ [])) c (inlines.End (span_of n) ∷ []) in
+two_shown marks o c d n p q s e t u h g f i j a b =
+    let ends : delimiters.Marks = set (set (marks_shown marks) o (inlines.Start (span_of d n) ∷ [])) c (inlines.End (span_of d n) ∷ []) in
     one_set (set (two_ends marks o c s e) p t) (set ends p []) q u []
-    (one_set (two_ends marks o c s e) ends p t [] (ends_shown marks o c n s e h g) a.shows) b.shows
+    (one_set (two_ends marks o c s e) ends p t [] (ends_shown marks o c d n s e h g) a.shows) b.shows
     ∙ (ap₂ (λ x y. set (set ends x []) y []) i j
     ∙ sym (ap (λ m. elim m as (λ _. delimiters.Marks) [ true ↦ set (set ends (suc o) []) (suc c) [] | false ↦ ends ]) f))
 

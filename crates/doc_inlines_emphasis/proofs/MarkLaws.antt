@@ -18,9 +18,11 @@ use Rattle.doc_inlines_marks.specs.declared.mark_ref.MarkRef.{MarkRef}
 use Rattle.doc_inlines_marks.specs.declared.mark_ref.MarkRef.TheVariants.{Text, Code, Soft, Hard, Raw, Reference, Start, End}
 use Rattle.doc_inlines_marks.specs.Slices.{slice_in, is_cut, IsCut, AreCut}
 use Rattle.doc_inlines_marks.specs.Views.{inlines_in}
+use Rattle.doc_inlines_emphasis.specs.declared.delimiter.Delimiter.{Delimiter}
+use Rattle.doc_inlines_emphasis.specs.declared.delimiter.Delimiter.TheVariants.{Star, Underscore, Tilde, TwoTildes}
 use Rattle.doc_inlines_emphasis.specs.declared.run.Run.{Run}
 use Rattle.doc_inlines_emphasis.specs.declared.marks.Place.{Place}
-use Rattle.doc_inlines_emphasis.specs.RunSteps.{delimiter, char_of, placed_shown, all_placed}
+use Rattle.doc_inlines_emphasis.specs.RunSteps.{delimiter, char_of, length_by, placed_shown, all_placed}
 use Rattle.doc_inlines_emphasis.specs.Views.{marks_shown, StandsApart}
 use Rattle.doc_inlines_emphasis.specs.Texts.{IsRunText, IsTextOf, AreEach, AddsEach, fresh_run}
 
@@ -298,37 +300,34 @@ place_behind items runs place h e f =
 
 -- ---- the text of a run
 
-small : (star : Bool) → delimiter star < 128
-small true = omega arith
-small false = omega arith
+small : (own : Delimiter) → delimiter own < 128
+small Star = omega arith
+small Underscore = omega arith
+small Tilde = omega arith
+small TwoTildes = omega arith
 
 all_ascii : (n c : ℕ) → c < 128 → IsAscii (replicate n c)
 all_ascii zero c h i = omega arith
 all_ascii (suc n) c h zero = h
 all_ascii (suc n) c h (suc i) = all_ascii n c h i
 
-run_bytes : (bytes : List ℕ) → IsUtf8 bytes → IsRunText (chars bytes) → chars bytes ≡ bytes
-run_bytes bytes u h = sym (encodes-IsAscii (chars bytes) (subst IsAscii (sym h.is)
-    (all_ascii (suc h.more) (delimiter h.star) (small h.star)))) ∙ encodes-chars bytes u
+run_bytes : (own : Delimiter) (bytes : List ℕ) → IsUtf8 bytes → IsRunText own (chars bytes) → chars bytes ≡ bytes
+run_bytes own bytes u h = sym (encodes-IsAscii (chars bytes) (subst IsAscii (sym h.is)
+    (all_ascii (suc h.more) (delimiter own) (small own)))) ∙ encodes-chars bytes u
 
-star_is : (star : Bool) → (delimiter star == 42) ≡ star
-star_is true = refl
-star_is false = refl
+-- its bytes are its characters
+run_long : (own : Delimiter) (bytes : List ℕ) → IsUtf8 bytes → (h : IsRunText own (chars bytes)) → length bytes ≡ suc h.more
+run_long own bytes u h = ap length (sym (run_bytes own bytes u h) ∙ h.is) ∙ length-replicate (suc h.more) (delimiter own)
 
--- its bytes are its characters, each the same as the first
-pub run_some : (bytes : List ℕ) → IsUtf8 bytes → IsRunText (chars bytes) → 0 < length bytes
-run_some bytes u h =
-    let long : length bytes ≡ length (replicate (suc h.more) (delimiter h.star)) = ap length (sym (run_bytes bytes u h) ∙ h.is) in
-    let size : length (replicate (suc h.more) (delimiter h.star)) ≡ suc h.more = length-replicate (suc h.more) (delimiter h.star) in
-    omega arith
+pub run_some : (own : Delimiter) (bytes : List ℕ) → IsUtf8 bytes → IsRunText own (chars bytes) → 0 < length bytes
+run_some own bytes u h = let long : length bytes ≡ suc h.more = run_long own bytes u h in omega arith
 
-pub run_text : (bytes : List ℕ) → IsUtf8 bytes → IsRunText (chars bytes)
-    → chars bytes ≡ replicate (length bytes) (delimiter (get_or bytes 0 0 == 42))
-run_text bytes u h =
-    let is : bytes ≡ replicate (suc h.more) (delimiter h.star) = sym (run_bytes bytes u h) ∙ h.is in
-    let long : length bytes ≡ suc h.more = ap length is ∙ length-replicate (suc h.more) (delimiter h.star) in
-    let first : get_or bytes 0 0 ≡ delimiter h.star = ap (λ t. get_or t 0 0) is in
-    h.is ∙ ap₂ (λ n b. replicate n (delimiter b)) (sym long) (sym (ap (λ k. k == 42) first ∙ star_is h.star))
+run_text : (own : Delimiter) (bytes : List ℕ) → IsUtf8 bytes → IsRunText own (chars bytes)
+    → chars bytes ≡ replicate (length bytes) (delimiter own)
+run_text own bytes u h = h.is ∙ ap (λ n. replicate n (delimiter own)) (sym (run_long own bytes u h))
+
+run_fits : (own : Delimiter) (bytes : List ℕ) → IsUtf8 bytes → IsRunText own (chars bytes) → length_by own (length bytes) ≡ length bytes
+run_fits own bytes u h = subst (λ n. length_by own n ≡ n) (sym (run_long own bytes u h)) h.fits
 
 -- a run that is known otherwise is the same
 pub run_known : (n m c d : ℕ) → replicate (suc m) d ≡ replicate n c → (n ≡ suc m) × (c ≡ d)
@@ -346,36 +345,41 @@ one_char c h = chars-IsAscii (c ∷ []) (all_ascii 1 c h)
 
 -- ---- the marks and the run of a text
 
-pub adds_text : (items next : List MarkRef) (text bytes : List ℕ) → IsUtf8 text → IsRunText (chars text) → bytes ≡ text
-    → AddsEach items next (replicate (length text) (delimiter (get_or bytes 0 0 == 42))) →
+pub adds_text : (items next : List MarkRef) (own : Delimiter) (text : List ℕ) → IsUtf8 text → IsRunText own (chars text)
+    → AddsEach items next (replicate (length text) (delimiter own)) →
     AddsEach items next (chars text)
-adds_text items next text bytes u h e a = subst (λ t. AddsEach items next t)
-    (ap (λ b. replicate (length text) (delimiter (get_or b 0 0 == 42))) e ∙ sym (run_text text u h)) a
+adds_text items next own text u h a = subst (λ t. AddsEach items next t) (sym (run_text own text u h)) a
 
 -- the run that the code makes
-abbrev pub run_made : ℕ → List ℕ → List ℕ → Bool → Bool → Run
-run_made first text bytes opens closes = record {
+abbrev pub run_made : ℕ → List ℕ → Delimiter → Bool → Bool → Run
+run_made first text own opens closes = record {
   first = first;
   left = length text;
   length = length text;
-  star = get_or bytes 0 0 == 42;
+  delimiter = own;
   opens = opens;
   closes = closes;
 }
 
-pub runs_text : (runs left : List Run) (first size : ℕ) (text bytes : List ℕ) (opens closes : Bool) → IsUtf8 text → IsRunText (chars text)
-    → bytes ≡ text → first ≡ size →
-    left ≡ runs ++ (run_made first text bytes opens closes ∷ []) → (n c : ℕ) → chars text ≡ replicate (suc n) c
+pub runs_text : (runs left : List Run) (first size : ℕ) (own : Delimiter) (text : List ℕ) (opens closes : Bool) → IsUtf8 text
+    → IsRunText own (chars text) → first ≡ size →
+    left ≡ runs ++ (run_made first text own opens closes ∷ []) → (n c : ℕ) → chars text ≡ replicate (suc n) c
     → all_placed left ≡ all_placed runs ++ (fresh_run size c (suc n) opens closes ∷ [])
-runs_text runs left first size text bytes opens closes u h e f g n c k =
-    let d : ℕ = delimiter (get_or bytes 0 0 == 42) in
-    let known : (length text ≡ suc n) × (d ≡ c) =
-    run_known (length text) n d c (sym k ∙ (run_text text u h
-    ∙ ap (λ b. replicate (length text) (delimiter (get_or b 0 0 == 42))) (sym e))) in
-    let one : placed_shown (run_made first text bytes opens closes) ≡ fresh_run size c (suc n) opens closes =
-    ap (λ x. fresh_run x d (length text) opens closes) f ∙ ap₂ (λ x y. fresh_run size x y opens closes) known.1 known.0 in
-    ap all_placed g ∙ (map-append placed_shown runs (run_made first text bytes opens closes ∷ [])
+runs_text runs left first size own text opens closes u h f g n c k =
+    let d : ℕ = delimiter own in
+    let known : (length text ≡ suc n) × (d ≡ c) = run_known (length text) n d c (sym k ∙ run_text own text u h) in
+    let full : placed_shown (run_made first text own opens closes) ≡ fresh_run first d (length text) opens closes =
+    ap (λ m. made first d (length text) m) (run_fits own text u h) in
+    let one : placed_shown (run_made first text own opens closes) ≡ fresh_run size c (suc n) opens closes =
+    full ∙ (ap (λ x. fresh_run x d (length text) opens closes) f ∙ ap₂ (λ x y. fresh_run size x y opens closes) known.1 known.0) in
+    ap all_placed g ∙ (map-append placed_shown runs (run_made first text own opens closes ∷ [])
     ∙ ap (λ p. all_placed runs ++ (p ∷ [])) one)
+  where
+    made : ℕ → ℕ → ℕ → ℕ → Placed
+    made at char left whole = record {
+      first = at;
+      run = record { char = char; left = left; length = whole; opens = opens; closes = closes };
+    }
 
 pub sound_run : (items next : List MarkRef) (runs left : List Run) (x : Run)
     → ArePlaced (marks_shown items) 0 (length items) (all_placed runs) → AddsEach items next (replicate x.left (char_of x)) →

@@ -6,13 +6,15 @@ use Rattle.std.proofs.lemmas.List.{map-set, get_or-map, length-map}
 use Rattle.doc_rules.specs.Inlines as rules
 use Rattle.doc_rules.specs.Emphasis.{matches}
 use Rattle.doc_inlines_emphasis.specs.Marks.{Placed, less_closer}
-use Rattle.doc_inlines_emphasis.specs.Openers.{closer_kind, MissedFrom, NearestIs, AreBounds, Ascend, StandBefore}
+use Rattle.doc_inlines_emphasis.specs.Openers.{closer_kind, IsDelimiter, MissedFrom, NearestIs, AreBounds, Ascend, StandBefore}
 use Rattle.doc_inlines_emphasis.specs.NumberSteps.{no_run, numbered, run_numbered, taken_opener, paired_runs}
 use Rattle.doc_inlines_emphasis.specs.PassSteps.{Stacked}
 use Rattle.doc_inlines_emphasis.proofs.BoundLaws.{missed_more, missed_below}
 use Rattle.doc_inlines_emphasis.proofs.NumberLoops.{stacked_failed}
+use Rattle.doc_inlines_emphasis.specs.declared.delimiter.Delimiter.{Delimiter}
+use Rattle.doc_inlines_emphasis.specs.declared.delimiter.Delimiter.TheVariants.{Star, Underscore, Tilde, TwoTildes}
 use Rattle.doc_inlines_emphasis.specs.declared.run.Run.{Run}
-use Rattle.doc_inlines_emphasis.specs.RunSteps.{char_of, run_shown, placed_shown, all_placed}
+use Rattle.doc_inlines_emphasis.specs.RunSteps.{delimiter, char_of, length_by, run_shown, placed_shown, all_placed}
 
 pub numbered_is : (runs : List Run) (n : ℕ) (d : Run) → n < length runs → numbered (all_placed runs) n ≡ placed_shown (get_or runs n d)
 numbered_is runs n d h = get_or-map placed_shown runs n d no_run h
@@ -23,16 +25,14 @@ run_is runs n d h = ap (λ (p : Placed). p.run) (numbered_is runs n d h)
 pub as_many : (runs : List Run) → length (all_placed runs) ≡ length runs
 as_many runs = length-map runs placed_shown
 
--- a character of runs
-abbrev Either : ℕ → Type 0
-Either c = (c ≡ 42) ⊎ (c ≡ 95)
-
-pub char_is : (run : Run) → Either (char_of run)
-char_is run = at run.star
+pub delimiter_is : (run : Run) → IsDelimiter (char_of run) (length_by run.delimiter run.length)
+delimiter_is run = at run.delimiter
   where
-    at : (m : Bool) → Either (if m then 42 else 95)
-    at true = inl refl
-    at false = inr refl
+    at : (d : Delimiter) → IsDelimiter (delimiter d) (length_by d run.length)
+    at Star = inl (inl refl)
+    at Underscore = inl (inr refl)
+    at Tilde = inr (refl, inl refl)
+    at TwoTildes = inr (refl, inr refl)
 
 -- a search goes down by one
 abbrev Above : List Run → List ℕ → Run → ℕ → Type 0
@@ -70,7 +70,7 @@ pub search_ended : (runs : List Run) (openers bounds : List ℕ) (closer : Run) 
     → slice_index openers (place - 1) < slice_index bounds kind
     → NearestIs (run_numbered (all_placed runs)) openers (run_shown closer) None
 search_ended runs openers bounds closer place kind some within bounded ascend closes missed e less =
-    missed_below bounds (run_numbered (all_placed runs)) openers (run_shown closer) (place - 1) bounded ascend (closes, char_is closer)
+    missed_below bounds (run_numbered (all_placed runs)) openers (run_shown closer) (place - 1) bounded ascend (closes, delimiter_is closer)
     (step_down runs openers closer place some missed) (omega arith)
     (subst (λ k. slice_index openers (place - 1) < slice_index bounds k) e less)
 
@@ -101,8 +101,8 @@ search_failed runs openers looked bounds number kind d s size closes is near e w
     subst (λ k. Stacked (all_placed runs) openers (set bounds k number) number) kinds
     (stacked_failed (all_placed runs) openers bounds number s (closes, chars number d size) missed (omega arith))
   where
-    chars : (n : ℕ) (e : Run) → n < length runs → Either (run_numbered (all_placed runs) n).char
-    chars n e h = subst (λ (r : rules.Run). Either r.char) (sym (run_is runs n e h)) (char_is (get_or runs n e))
+    chars : (n : ℕ) (e : Run) → n < length runs → IsDelimiter (run_numbered (all_placed runs) n).char (run_numbered (all_placed runs) n).length
+    chars n e h = subst (λ (r : rules.Run). IsDelimiter r.char r.length) (sym (run_is runs n e h)) (delimiter_is (get_or runs n e))
 
 -- delimiters are taken of two runs
 pub taken_is : (runs : List Run) (o c n : ℕ) (d e : Run) → o < length runs → c < length runs →

@@ -165,7 +165,7 @@ ends_at marks next a b runs left openers number w l =
 pub pair_keeps : (marks next : Marks) (a b : ℕ) (runs : List Placed) (openers : List ℕ) (number place n : ℕ) (goal : List Inline)
     → ClosesAt marks a b runs openers number goal → place < length openers →
     IsPaired marks next ((numbered runs (get_or openers place 0)).first + ((run_numbered runs (get_or openers place 0)).left - n))
-    (numbered runs number).first n →
+    (numbered runs number).first (run_numbered runs number).char n →
     (i : ℕ) → i < a → get_or marks i [] ≡ get_or next i []
 pair_keeps marks next a b runs openers number place n goal h l p i less =
     let c : Placed = numbered runs number in
@@ -173,4 +173,4 @@ pair_keeps marks next a b runs openers number place n goal h l p i less =
     ++ (numbered runs (get_or openers place 0) ∷ stack_of runs (drop (suc place) openers))) =
     subst (λ t. ArePlaced marks a c.first t) (stack_split runs openers place l) h.stands.before in
     pair_before marks next a c.first (stack_of runs (take place openers)) (numbered runs (get_or openers place 0))
-    (stack_of runs (drop (suc place) openers)) n placed p i less
+    (stack_of runs (drop (suc place) openers)) c.run.char n placed p i less

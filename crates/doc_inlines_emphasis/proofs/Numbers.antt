@@ -130,7 +130,7 @@ pub pair_at : (marks next : Marks) (a b : ℕ) (runs : List Placed) (openers : L
     → NearestIs (run_numbered runs) openers (run_numbered runs number) (Some place) → 1 ≤ (run_numbered runs number).left →
     n ≡ strength (run_numbered runs (get_or openers place 0)) (run_numbered runs number) →
     IsPaired marks next ((numbered runs (get_or openers place 0)).first + ((run_numbered runs (get_or openers place 0)).left - n))
-    (numbered runs number).first n →
+    (numbered runs number).first (run_numbered runs number).char n →
     ClosesAt next a b (paired_runs runs (get_or openers place 0) number n) (paired_openers runs openers place n) number goal
 pair_at marks next a b runs openers number place n goal h size a_openers s near l is p =
     let o : ℕ = get_or openers place 0 in
@@ -140,8 +140,10 @@ pair_at marks next a b runs openers number place n goal h size a_openers s near 
     let split : Closes marks a b (stack_of runs (take place openers) ++ (numbered runs o ∷ stack_of runs (drop (suc place) openers)))
     (numbered runs number) rest goal =
     subst (λ t. Closes marks a b t (numbered runs number) rest goal) (stack_split runs openers place near.0) h in
-    let pair : IsPaired marks next ((numbered runs o).first + ((run_numbered runs o).left - strong)) (numbered runs number).first strong =
-    subst (λ k. IsPaired marks next ((numbered runs o).first + ((run_numbered runs o).left - k)) (numbered runs number).first k) is p in
+    let pair : IsPaired marks next ((numbered runs o).first + ((run_numbered runs o).left - strong)) (numbered runs number).first
+    (run_numbered runs number).char strong =
+    subst (λ k. IsPaired marks next ((numbered runs o).first + ((run_numbered runs o).left - k)) (numbered runs number).first
+    (run_numbered runs number).char k) is p in
     let made : Closes next a b (stack_of runs (take place openers) ++ less_opener strong (numbered runs o))
     (less_closer strong (numbered runs number)) rest goal =
     closes_pair marks next a b (stack_of runs (take place openers)) (numbered runs o) (stack_of runs (drop (suc place) openers))

@@ -25,8 +25,8 @@ after_search n r before found =
     elim found [
       | None ↦ kept r ++ before
       | Some o ↦ elim (nat_lt (strength o.run r) r.left) [
-        | true ↦ closed n (record r { left = r.left - strength o.run r }) (behind_pair o (strength o.run r))
-        | false ↦ behind_pair o (strength o.run r)
+        | true ↦ closed n (record r { left = r.left - strength o.run r }) (behind_pair o r.char (strength o.run r))
+        | false ↦ behind_pair o r.char (strength o.run r)
       ]
     ]
 
@@ -38,17 +38,18 @@ searched n r before found e = ap (after_search n r before) e
 -- ---- the pass
 
 wrapped_is : (o : Opener) (r : Run) (after : List Inline)
-    → wrapped o r after ≡ onto (behind_pair o (strength o.run r)) (less (strength o.run r) r ++ after)
+    → wrapped o r after ≡ onto (behind_pair o r.char (strength o.run r)) (less (strength o.run r) r ++ after)
 unfolding wrapped
 wrapped_is o r after =
     let n : ℕ = strength o.run r in
-    sym (onto_reverse o.before (less n o.run ++ (Start (span_of n) ∷ o.between ++ (End (span_of n) ∷ less n r ++ after))))
-    ∙ sym (pair_onto o n (less n r ++ after))
+    sym (onto_reverse o.before (less n o.run ++ (Start (span_of r.char n) ∷ o.between ++ (End (span_of r.char n) ∷ less n r ++ after))))
+    ∙ sym (pair_onto o r.char n (less n r ++ after))
 
 settled_pair : (before : List Inline) (r : Run) (o : Opener) → AreSettled before → opener_of r [] before ≡ Some o
-    → AreSettled (behind_pair o (strength o.run r))
+    → AreSettled (behind_pair o r.char (strength o.run r))
 settled_pair before r o h e =
-    ap (wrap_first []) (pair_onto o (strength o.run r) []) ∙ settled_after before r o (strength o.run r) (span_of (strength o.run r)) h e
+    ap (wrap_first []) (pair_onto o r.char (strength o.run r) [])
+    ∙ settled_after before r o (strength o.run r) (span_of r.char (strength o.run r)) h e
 
 -- what is left of the inlines behind a settled part passes to what wrapping makes of all
 abbrev Passes : List Inline → Type 0
@@ -79,8 +80,8 @@ passes_found n after r before l h more again None e =
     ∙ more (Delimiters r ∷ before) (settled_more before (Delimiters r) h (ap (after_test before r []) e))
 passes_found n after r before l h more again (Some o) e =
     let k : ℕ = strength o.run r in
-    let b : List Inline = behind_pair o k in
-    let same : quiet b ≡ behind_pair (quiet_opener o) k = quiet_pair o k (between_has_no_run r [] before o tt e)
+    let b : List Inline = behind_pair o r.char k in
+    let same : quiet b ≡ behind_pair (quiet_opener o) r.char k = quiet_pair o r.char k (between_has_no_run r [] before o tt e)
     (match_opens o.run r (found_matches r [] before o e)) in
     ap (λ b. flat_map as_text (passed b after)) (searched n r (quiet before) (Some (quiet_opener o)) (quiet_search r [] before
     ∙ ap quieted e))

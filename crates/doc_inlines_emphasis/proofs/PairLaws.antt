@@ -18,7 +18,7 @@ use Rattle.doc_inlines_emphasis.proofs.NumberLoops.{stacked_pair}
 use Rattle.doc_inlines_marks.specs.declared.mark_ref.MarkRef.{MarkRef}
 use Rattle.doc_inlines_marks.specs.Views.{inlines_in}
 use Rattle.doc_inlines_emphasis.specs.declared.run.Run.{Run}
-use Rattle.doc_inlines_emphasis.specs.RunSteps.{run_shown, placed_shown, all_placed}
+use Rattle.doc_inlines_emphasis.specs.RunSteps.{char_of, run_shown, placed_shown, all_placed}
 use Rattle.doc_inlines_emphasis.specs.Steps.{Keeps, StandAt, GoesOn}
 use Rattle.doc_inlines_emphasis.specs.Views.{marks_shown}
 use Rattle.doc_inlines_emphasis.proofs.NumberLaws.{numbered_is, as_many}
@@ -119,7 +119,7 @@ pub record IsPairMade (marks next : List MarkRef) (runs left : List Run) (opener
   pub opens : numbered (all_placed runs) (get_or openers place 0) ≡ placed_shown x
   pub closes : numbered (all_placed runs) number ≡ placed_shown y
   pub taken : n ≡ strength (run_shown x) (run_shown y)
-  pub marks_are : marks_shown next ≡ paired (marks_shown marks) (x.first + (x.left - n)) y.first n
+  pub marks_are : marks_shown next ≡ paired (marks_shown marks) (x.first + (x.left - n)) y.first (char_of y) n
   pub keeps : (p : ℕ) → p ≤ x.first + (x.left - n) → Keeps p marks next
   pub runs_are : all_placed left ≡ paired_runs (all_placed runs) (get_or openers place 0) number n
   pub kept_are : kept ≡ take (if nat_lt n x.left then place + 1 else place) openers
@@ -144,8 +144,10 @@ module _ (marks next : List MarkRef) (runs left : List Run) (openers kept bounds
 
   written : marks_shown next ≡
       paired (marks_shown marks) ((numbered (all_placed runs) (get_or openers place 0)).first +
-      ((run_numbered (all_placed runs) (get_or openers place 0)).left - n)) (numbered (all_placed runs) number).first n
-  written = m.marks_are ∙ sym (ap₂ (λ (p q : Placed). paired (marks_shown marks) (p.first + (p.run.left - n)) q.first n) m.opens m.closes)
+      ((run_numbered (all_placed runs) (get_or openers place 0)).left - n)) (numbered (all_placed runs) number).first
+      (run_numbered (all_placed runs) number).char n
+  written = m.marks_are
+      ∙ sym (ap₂ (λ (p q : Placed). paired (marks_shown marks) (p.first + (p.run.left - n)) q.first q.run.char n) m.opens m.closes)
 
   apart : (a b : ℕ) → Stands (marks_shown marks) a b (stack_of (all_placed runs) openers) (numbered (all_placed runs) number)
       (drop (suc number) (all_placed runs)) →
@@ -164,9 +166,9 @@ module _ (marks next : List MarkRef) (runs left : List Run) (openers kept bounds
       let order : o.first + o.run.left ≤ c.first = p.order in
       let last : c.first + c.run.left ≤ b = p.within in
       let behind : a ≤ o.first = p.behind in
-      let pair : IsPaired (marks_shown marks) (marks_shown next) (o.first + (o.run.left - n)) c.first n =
-      subst (λ t. IsPaired (marks_shown marks) t (o.first + (o.run.left - n)) c.first n) (sym written)
-      (paired_is (marks_shown marks) (o.first + (o.run.left - n)) c.first n two (omega arith) (omega arith)) in
+      let pair : IsPaired (marks_shown marks) (marks_shown next) (o.first + (o.run.left - n)) c.first c.run.char n =
+      subst (λ t. IsPaired (marks_shown marks) t (o.first + (o.run.left - n)) c.first c.run.char n) (sym written)
+      (paired_is (marks_shown marks) (o.first + (o.run.left - n)) c.first c.run.char n two (omega arith) (omega arith)) in
       let made : ClosesAt (marks_shown next) a b (paired_runs (all_placed runs) (get_or openers place 0) number n)
       (paired_openers (all_placed runs) openers place n) number goal =
       pair_at (marks_shown marks) (marks_shown next) a b (all_placed runs) openers number place n goal h size m.stacked.ascend

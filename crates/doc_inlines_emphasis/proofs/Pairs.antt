@@ -39,22 +39,22 @@ abbrev opening_of : Placed → ℕ → ℕ
 opening_of o n = o.first + (o.run.left - n)
 
 -- a start, what stood between the runs, and an end
-pair_stretch : (marks next : Marks) (o : Placed) (b n : ℕ) → OneOrTwo n → n ≤ o.run.left → o.first + o.run.left ≤ b
-    → IsPaired marks next (o.first + (o.run.left - n)) b n →
+pair_stretch : (marks next : Marks) (o : Placed) (b d n : ℕ) → OneOrTwo n → n ≤ o.run.left → o.first + o.run.left ≤ b
+    → IsPaired marks next (o.first + (o.run.left - n)) b d n →
     stretch next (o.first + (o.run.left - n)) ((b + n) - (o.first + (o.run.left - n)))
-    ≡ Start (span_of n) ∷ stretch marks (o.first + o.run.left) (b - (o.first + o.run.left)) ++ (End (span_of n) ∷ [])
-pair_stretch marks next o b n two l h p =
+    ≡ Start (span_of d n) ∷ stretch marks (o.first + o.run.left) (b - (o.first + o.run.left)) ++ (End (span_of d n) ∷ [])
+pair_stretch marks next o b d n two l h p =
     let s : ℕ = o.first + (o.run.left - n) in
     let g : ℕ = o.first + o.run.left in
     let e : (o.first + o.run.left) - (o.first + (o.run.left - n)) ≡ n = omega arith in
     let f : (b + n) - b ≡ n = omega arith in
     let q : (o.first + (o.run.left - n)) + n ≡ o.first + o.run.left = omega arith in
-    let start : stretch next s (g - s) ≡ Start (span_of n) ∷ [] = ap (stretch next s) e
-    ∙ one_mark next s n (Start (span_of n)) two p.start p.start_second in
+    let start : stretch next s (g - s) ≡ Start (span_of d n) ∷ [] = ap (stretch next s) e
+    ∙ one_mark next s n (Start (span_of d n)) two p.start p.start_second in
     let middle : stretch next g (b - g) ≡ stretch marks g (b - g) = sym
     (stretch_same marks next g (b - g) (λ i low high. p.between i (omega arith) (omega arith))) in
-    let stop : stretch next b ((b + n) - b) ≡ End (span_of n) ∷ [] = ap (stretch next b) f
-    ∙ one_mark next b n (End (span_of n)) two p.stop p.stop_second in
+    let stop : stretch next b ((b + n) - b) ≡ End (span_of d n) ∷ [] = ap (stretch next b) f
+    ∙ one_mark next b n (End (span_of d n)) two p.stop p.stop_second in
     stretch_to next s g (b + n) (omega arith) (omega arith)
     ∙ (ap (λ t. stretch next s (g - s) ++ t) (stretch_to next g b (b + n) h (omega arith))
     ∙ ap₂ (λ x y. x ++ y) start (ap₂ (λ x y. x ++ y) middle stop))
@@ -87,23 +87,23 @@ unfolding onto
 swapped xs ys = onto_onto xs [] ys
 
 -- what is seen before the closer when the pair is made
-pair_seen : (marks next : Marks) (a b : ℕ) (lower : List Placed) (o : Placed) (upper : List Placed) (n : ℕ) → OneOrTwo n → n ≤ o.run.left
+pair_seen : (marks next : Marks) (a b : ℕ) (lower : List Placed) (o : Placed) (upper : List Placed) (d n : ℕ) → OneOrTwo n → n ≤ o.run.left
     → ArePlaced marks a b (lower ++ (o ∷ upper)) →
-    IsPaired marks next (o.first + (o.run.left - n)) b n →
-    behind_pair (marks_opener marks a b lower o) n ≡ onto (seen next a (b + n) (lower ++ less_opener n o)) []
-pair_seen marks next a b lower o upper n two l h p =
+    IsPaired marks next (o.first + (o.run.left - n)) b d n →
+    behind_pair (marks_opener marks a b lower o) d n ≡ onto (seen next a (b + n) (lower ++ less_opener n o)) []
+pair_seen marks next a b lower o upper d n two l h p =
     let opener : Opener = marks_opener marks a b lower o in
     let before : List Inline = seen marks a o.first lower in
     let front : ArePlaced marks a o.first lower = placed_front marks a b lower o upper h in
     let same : Agree marks next a o.first = λ i low high. p.before i (omega arith) in
     let order : o.first + o.run.left ≤ b = placed_order marks (o.first + o.run.left) b upper (placed_at marks a b lower o upper h).2 in
-    let w : List Inline = less n o.run ++ (Start (span_of n) ∷ opener.between ++ (End (span_of n) ∷ [])) in
+    let w : List Inline = less n o.run ++ (Start (span_of d n) ∷ opener.between ++ (End (span_of d n) ∷ [])) in
     let shown : seen next a (b + n) (lower ++ less_opener n o) ≡ before ++ w =
     less_seen next a (b + n) lower o n l (omega arith) (placed_same marks next a o.first lower front same) (nat_lt n o.run.left) refl
     ∙ ap₂ (λ x y. x ++ (less n o.run ++ y)) (sym (seen_same marks next a o.first lower front same))
-    (pair_stretch marks next o b n two l order p) in
-    sym (back (behind_pair opener n))
-    ∙ ap (λ t. onto t []) (pair_onto opener n [] ∙ (swapped before w ∙ sym shown))
+    (pair_stretch marks next o b d n two l order p) in
+    sym (back (behind_pair opener d n))
+    ∙ ap (λ t. onto t []) (pair_onto opener d n [] ∙ (swapped before w ∙ sym shown))
 
 less_present : (n : ℕ) (r : Run) → less n r ≡ present (record r { left = r.left - n })
 less_present n r = at (nat_lt n r.left) (nat_lt 0 (r.left - n)) refl refl
@@ -135,7 +135,7 @@ present_some r h = at (nat_lt 0 r.left) refl
 pub pair_outcome : (marks next : Marks) (a b : ℕ) (lower : List Placed) (o : Placed) (upper : List Placed) (c : Placed)
     (rest : List Placed) →
     Stands marks a b (lower ++ (o ∷ upper)) c rest → 1 ≤ c.run.left → AllMiss c.run upper → matches o.run c.run ≡ true →
-    IsPaired marks next (o.first + (o.run.left - strength o.run c.run)) c.first (strength o.run c.run) →
+    IsPaired marks next (o.first + (o.run.left - strength o.run c.run)) c.first c.run.char (strength o.run c.run) →
     outcome marks a b (lower ++ (o ∷ upper)) c rest ≡ outcome next a b (lower ++ less_opener (strength o.run c.run) o)
     (less_closer (strength o.run c.run) c) rest
 pair_outcome marks next a b lower o upper c rest s l miss e p =
@@ -149,14 +149,14 @@ pair_outcome marks next a b lower o upper c rest s l miss e p =
     ap (λ t. passed (onto (seen marks a c.first (lower ++ (o ∷ upper))) []) (t ++ seen marks k b rest)) (present_some c.run l)
     ∙ (passed_some (onto (seen marks a c.first (lower ++ (o ∷ upper))) []) c.run (seen marks k b rest)
     (marks_opener marks a c.first lower o) (found_opener marks a c.first lower o upper c.run s.plain s.before miss e)
-    ∙ (ap₂ (λ x y. passed x (less n c.run ++ y)) (pair_seen marks next a c.first lower o upper n fits.0 fits.1 s.before p) same
+    ∙ (ap₂ (λ x y. passed x (less n c.run ++ y)) (pair_seen marks next a c.first lower o upper c.run.char n fits.0 fits.1 s.before p) same
     ∙ ap₂ (λ x y. passed (onto (seen next a (c.first + n) (lower ++ less_opener n o)) []) (x ++ seen next y b rest)) (less_present n c.run)
     place))
 
 -- ---- what holds of the marks holds on
 
-paired_plain : (marks next : Marks) (s t n : ℕ) → OneOrTwo n → ArePlain marks → IsPaired marks next s t n → ArePlain next
-paired_plain marks next s t n two h p i = first_part (nat_lt i s) refl
+paired_plain : (marks next : Marks) (s t c n : ℕ) → OneOrTwo n → ArePlain marks → IsPaired marks next s t c n → ArePlain next
+paired_plain marks next s t c n two h p i = first_part (nat_lt i s) refl
   where
     kept_plain : get_or marks i [] ≡ get_or next i [] → NoRun (get_or next i [])
     kept_plain e = subst (λ xs. NoRun xs) e (h i)
@@ -180,7 +180,7 @@ paired_plain marks next s t n two h p i = first_part (nat_lt i s) refl
         by (inr e) = second e (nat_lt k i) refl
 
     fifth_part : t ≤ i → (m : Bool) → nat_lt i (t + n) ≡ m → NoRun (get_or next i [])
-    fifth_part low true e = let l : i < t + n = ltb-true i (t + n) e in of_pair t (End (span_of n)) tt p.stop p.stop_second low l
+    fifth_part low true e = let l : i < t + n = ltb-true i (t + n) e in of_pair t (End (span_of c n)) tt p.stop p.stop_second low l
     fifth_part low false e = let l : t + n ≤ i = ltb-false i (t + n) e in kept_plain (p.behind i l)
 
     third_part : s + n ≤ i → (m : Bool) → nat_lt i t ≡ m → NoRun (get_or next i [])
@@ -188,32 +188,32 @@ paired_plain marks next s t n two h p i = first_part (nat_lt i s) refl
     third_part low false e = let l : t ≤ i = ltb-false i t e in fifth_part l (nat_lt i (t + n)) refl
 
     second_part : s ≤ i → (m : Bool) → nat_lt i (s + n) ≡ m → NoRun (get_or next i [])
-    second_part low true e = let l : i < s + n = ltb-true i (s + n) e in of_pair s (Start (span_of n)) tt p.start p.start_second low l
+    second_part low true e = let l : i < s + n = ltb-true i (s + n) e in of_pair s (Start (span_of c n)) tt p.start p.start_second low l
     second_part low false e = let l : s + n ≤ i = ltb-false i (s + n) e in third_part l (nat_lt i t) refl
 
     first_part : (m : Bool) → nat_lt i s ≡ m → NoRun (get_or next i [])
     first_part true e = let l : i < s = ltb-true i s e in kept_plain (p.before i l)
     first_part false e = let l : s ≤ i = ltb-false i s e in second_part l (nat_lt i (s + n)) refl
 
-less_placed : (marks next : Marks) (a b : ℕ) (lower : List Placed) (o : Placed) (n t : ℕ) → n ≤ o.run.left → o.first + o.run.left ≤ b
+less_placed : (marks next : Marks) (a b : ℕ) (lower : List Placed) (o : Placed) (d n t : ℕ) → n ≤ o.run.left → o.first + o.run.left ≤ b
     → ArePlaced next a o.first lower → AreDelimiters marks o →
-    IsPaired marks next (o.first + (o.run.left - n)) t n → (m : Bool) → nat_lt n o.run.left ≡ m →
+    IsPaired marks next (o.first + (o.run.left - n)) t d n → (m : Bool) → nat_lt n o.run.left ≡ m →
     ArePlaced next a b (lower ++ (elim m as (λ _. List Placed)
     [ true ↦ record { first = o.first; run = record o.run { left = o.run.left - n } } ∷ [] | false ↦ [] ]))
-less_placed marks next a b lower o n t l h front d p true e =
+less_placed marks next a b lower o d n t l h front q p true e =
     let f : n < o.run.left = ltb-true n o.run.left e in
     let own : AreDelimiters next (record { first = o.first; run = record o.run { left = o.run.left - n } }) = λ i low high. sym
-    (p.before i high) ∙ d i low (omega arith) in
+    (p.before i high) ∙ q i low (omega arith) in
     placed_join next a b lower (record { first = o.first; run = record o.run { left = o.run.left - n } }) [] front (omega arith) own
     (omega arith)
-less_placed marks next a b lower o n t l h front d p false e =
+less_placed marks next a b lower o d n t l h front q p false e =
     subst (λ xs. ArePlaced next a b xs) (sym (append-nil lower)) (placed_until next a o.first b lower front (omega arith))
 
 -- a pair keeps what holds of the marks
 pub pair_stands : (marks next : Marks) (a b : ℕ) (lower : List Placed) (o : Placed) (upper : List Placed) (c : Placed) (rest : List Placed)
     →
     Stands marks a b (lower ++ (o ∷ upper)) c rest → 1 ≤ c.run.left →
-    IsPaired marks next (o.first + (o.run.left - strength o.run c.run)) c.first (strength o.run c.run) →
+    IsPaired marks next (o.first + (o.run.left - strength o.run c.run)) c.first c.run.char (strength o.run c.run) →
     Stands next a b (lower ++ less_opener (strength o.run c.run) o) (less_closer (strength o.run c.run) c) rest
 pair_stands marks next a b lower o upper c rest s l p =
     let n : ℕ = strength o.run c.run in
@@ -229,8 +229,8 @@ pair_stands marks next a b lower o upper c rest s l p =
     let rest_placed : ArePlaced next (c.first + c.run.left) b rest = placed_same marks next (c.first + c.run.left) b rest s.behind
     (λ i low high. p.behind i (omega arith)) in
     record {
-      plain = paired_plain marks next (o.first + (o.run.left - n)) c.first n fits.0 s.plain p;
-      before = less_placed marks next a (c.first + n) lower o n c.first fits.1 (omega arith) front own.1 p (nat_lt n o.run.left) refl;
+      plain = paired_plain marks next (o.first + (o.run.left - n)) c.first c.run.char n fits.0 s.plain p;
+      before = less_placed marks next a (c.first + n) lower o c.run.char n c.first fits.1 (omega arith) front own.1 p (nat_lt n o.run.left) refl;
       here = λ i low high. sym (p.behind i low) ∙ s.here i (omega arith) (omega arith);
       behind = subst (λ k. ArePlaced next k b rest) place rest_placed;
     }

@@ -2,7 +2,7 @@
 use Rattle.std.proofs.Common.{◌≡◌, refl, codes, List, [], ℕ, reverse, length}
 use Rattle.std.specs.Prelude.{flat_map}
 use Rattle.doc_rules.proofs.Computing.{inline_words}
-use Rattle.doc_rules.specs.Entities.{built_in}
+use Rattle.doc_rules.specs.Rules.{built_in_rules}
 use Rattle.doc_rules.specs.Inlines.{Inline, as_text}
 use Rattle.doc_rules.specs.Emphasis.{emphasis_of}
 use Rattle.doc_rules.specs.Reading.{read}
@@ -12,7 +12,7 @@ use Rattle.doc_inlines_emphasis.specs.InPlace.{nearest_placed, paired, close_in_
 
 -- the inlines of a text before emphasis is sought
 abbrev read_of : List ℕ → List Inline
-read_of text = reverse (read built_in [] 10 [] 0 text)
+read_of text = reverse (read built_in_rules [] 10 [] 0 text)
 
 -- one pass over the text's inlines gives their emphasis
 abbrev Agrees : List ℕ → Type 0

@@ -99,8 +99,8 @@ past_not_closing marks runs openers number d size e a b goal fits h = (
 pub walks_start : (marks : List MarkRef) (runs : List Run) → WalksOn marks marks runs runs [] 0
 walks_start marks runs a h = (starts_at (marks_shown marks) a (length marks) (all_placed runs) 0 (are_plain marks) h, keeps_all a marks)
 
-pub stacked_start : (runs : List Run) → Stacked (all_placed runs) [] (replicate 12 0) 0
-stacked_start runs = stacked_first (all_placed runs) (replicate 12 0) 0 (reach_first 12 0)
+pub stacked_start : (runs : List Run) → Stacked (all_placed runs) [] (replicate 14 0) 0
+stacked_start runs = stacked_first (all_placed runs) (replicate 14 0) 0 (reach_first 14 0)
 
 pub walks_long : (marks next : List MarkRef) (runs left : List Run) (openers : List ℕ) (number : ℕ)
     → ArePlaced (marks_shown marks) 0 (length marks) (all_placed runs) →

@@ -26,7 +26,7 @@ enough_at : (n m : ℕ) (r : Run) (b : List Inline) → r.left < suc n → r.lef
 enough_at n m r b l g more None e = searched n r b None e ∙ sym (searched m r b None e)
 enough_at n m r b l g more (Some o) e =
     searched n r b (Some o) e
-    ∙ (enough_left n m r (behind_pair o (strength o.run r)) (strength o.run r) (strong_counts (nat_le 2 o.run.left && nat_le 2 r.left)) l g
+    ∙ (enough_left n m r (behind_pair o r.char (strength o.run r)) (strength o.run r) (strong_counts (nat_le 2 o.run.left && nat_le 2 r.left)) l g
     more (nat_lt (strength o.run r) r.left) refl
     ∙ sym (searched m r b (Some o) e))
 
@@ -53,11 +53,11 @@ some_left r b after k one false e = refl
 
 -- a run with an opener is paired with it, and what is left of it comes next
 pub passed_some : (before : List Inline) (r : Run) (after : List Inline) (o : Opener) → opener_of r [] before ≡ Some o →
-    passed before (Delimiters r ∷ after) ≡ passed (behind_pair o (strength o.run r)) (less (strength o.run r) r ++ after)
+    passed before (Delimiters r ∷ after) ≡ passed (behind_pair o r.char (strength o.run r)) (less (strength o.run r) r ++ after)
 unfolding passed
 passed_some before r after o e =
     ap (λ b. passed b after) (searched r.left r before (Some o) e)
-    ∙ some_left r (behind_pair o (strength o.run r)) after (strength o.run r) (strong_counts (nat_le 2 o.run.left && nat_le 2 r.left))
+    ∙ some_left r (behind_pair o r.char (strength o.run r)) after (strength o.run r) (strong_counts (nat_le 2 o.run.left && nat_le 2 r.left))
     (nat_lt (strength o.run r) r.left) refl
 
 -- what is no run is passed

@@ -5,7 +5,7 @@ use Rattle.std.specs.Prelude.{nat_lt, ◌&&◌, ◌||◌, ◌==◌, not, flat_ma
 use Rattle.std.proofs.lemmas.List.{reverse-append}
 use Rattle.std.proofs.lemmas.List.Concat.{flat_map-cons}
 use Rattle.doc_rules.specs.Inlines.{Inline, Literal, Start, End, Delimiters, Run, run_text, as_text}
-use Rattle.doc_rules.specs.Emphasis.{Opener, opens_and_closes, is_multiple_of_3, matches, opener_of, span_of, less}
+use Rattle.doc_rules.specs.Emphasis.{Opener, fits_in_length, matches, opener_of, span_of, less}
 use Rattle.doc_inlines_emphasis.specs.OnePass.{kept, behind_pair}
 use Rattle.doc_inlines_emphasis.specs.PassSteps.{onto}
 use Rattle.doc_inlines_emphasis.proofs.Settled.{onto_joined, after_match}
@@ -40,13 +40,13 @@ less_onto n r ys = at (nat_lt n r.left)
     at false = refl
 
 -- what stands before a closer that was paired, and behind it
-pub pair_onto : (o : Opener) (n : ℕ) (ys : List Inline) →
-    onto (behind_pair o n) ys ≡ onto o.before (less n o.run ++ (Start (span_of n) ∷ o.between ++ (End (span_of n) ∷ ys)))
+pub pair_onto : (o : Opener) (c n : ℕ) (ys : List Inline) →
+    onto (behind_pair o c n) ys ≡ onto o.before (less n o.run ++ (Start (span_of c n) ∷ o.between ++ (End (span_of c n) ∷ ys)))
 unfolding onto
-pair_onto o n ys =
-    let z : List Inline = Start (span_of n) ∷ (less n o.run ++ o.before) in
-    let tail : List Inline = End (span_of n) ∷ ys in
-    let w : List Inline = Start (span_of n) ∷ o.between ++ tail in
+pair_onto o c n ys =
+    let z : List Inline = Start (span_of c n) ∷ (less n o.run ++ o.before) in
+    let tail : List Inline = End (span_of c n) ∷ ys in
+    let w : List Inline = Start (span_of c n) ∷ o.between ++ tail in
     ap (λ t. onto t tail) (sym (onto_reverse o.between z))
     ∙ (onto_onto o.between z tail ∙ (onto_joined (less n o.run) o.before w ∙ ap (onto o.before) (less_onto n o.run w)))
 
@@ -60,9 +60,7 @@ closed_and false o d y e = refl
 pub no_opening : (k c : Run) → k.opens ≡ false → matches k c ≡ false
 unfolding matches
 no_opening k c e =
-    closed_and (k.char == c.char) k.opens c.closes
-    (not ((opens_and_closes k || opens_and_closes c) && is_multiple_of_3 (k.length + c.length)) ||
-    (is_multiple_of_3 k.length && is_multiple_of_3 c.length)) e
+    closed_and (k.char == c.char) k.opens c.closes (fits_in_length k c) e
 
 pub match_opens : (k c : Run) → matches k c ≡ true → k.opens ≡ true
 match_opens k c h = at k.opens refl
@@ -163,16 +161,17 @@ quiet_less n r b e = at (nat_lt n r.left)
         ++ quiet b) e
     at false = refl
 
-pub quiet_pair : (o : Opener) (n : ℕ) → NoRun o.between → o.run.opens ≡ true → quiet (behind_pair o n) ≡ behind_pair (quiet_opener o) n
+pub quiet_pair : (o : Opener) (c n : ℕ) → NoRun o.between → o.run.opens ≡ true
+    → quiet (behind_pair o c n) ≡ behind_pair (quiet_opener o) c n
 unfolding quiet
-quiet_pair o n h e =
-    let z : List Inline = Start (span_of n) ∷ (less n o.run ++ o.before) in
-    let y : List Inline = Start (span_of n) ∷ (less n o.run ++ quiet o.before) in
+quiet_pair o c n h e =
+    let z : List Inline = Start (span_of c n) ∷ (less n o.run ++ o.before) in
+    let y : List Inline = Start (span_of c n) ∷ (less n o.run ++ quiet o.before) in
     let inside : quiet (reverse o.between ++ z) ≡ reverse o.between ++ y =
     ap quiet (sym (onto_reverse o.between z))
-    ∙ (quiet_onto o.between z h ∙ (ap (λ t. onto o.between (Start (span_of n) ∷ t)) (quiet_less n o.run o.before e)
+    ∙ (quiet_onto o.between z h ∙ (ap (λ t. onto o.between (Start (span_of c n) ∷ t)) (quiet_less n o.run o.before e)
     ∙ onto_reverse o.between y)) in
-    ap (λ t. End (span_of n) ∷ t) inside
+    ap (λ t. End (span_of c n) ∷ t) inside
 
 -- ---- the same text
 

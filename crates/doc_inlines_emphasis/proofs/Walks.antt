@@ -4,7 +4,7 @@ use Rattle.std.proofs.Common.{◌∙◌, arith, append-nil}
 use Rattle.std.specs.Prelude.{nat_lt, ◌&&◌, ◌||◌, ◌==◌, not, flat_map, if◌then◌else◌}
 use Rattle.std.proofs.lemmas.Bool.{ltb-true, ltb-false}
 use Rattle.doc_rules.specs.Inlines.{Inline, Literal, Delimiters, Run, run_text, as_text}
-use Rattle.doc_rules.specs.Emphasis.{matches, strength, opens_and_closes, is_multiple_of_3, emphasis_of}
+use Rattle.doc_rules.specs.Emphasis.{fits_in_length, matches, strength, emphasis_of}
 use Rattle.doc_inlines_emphasis.specs.OnePass.{kept, passed, passed_once}
 use Rattle.doc_inlines_emphasis.specs.Marks.{Marks, Placed, stretch, seen, ArePlaced, ArePlain, IsPaired, less_opener, less_closer, present}
 use Rattle.doc_inlines_emphasis.specs.Marks.{joined}
@@ -64,7 +64,7 @@ closes_first marks a b stack c rest goal w = record {
 pub closes_pair : (marks next : Marks) (a b : ℕ) (lower : List Placed) (o : Placed) (upper : List Placed) (c : Placed) (rest : List Placed)
     (goal : List Inline) →
     Closes marks a b (lower ++ (o ∷ upper)) c rest goal → 1 ≤ c.run.left → AllMiss c.run upper → matches o.run c.run ≡ true →
-    IsPaired marks next (o.first + (o.run.left - strength o.run c.run)) c.first (strength o.run c.run) →
+    IsPaired marks next (o.first + (o.run.left - strength o.run c.run)) c.first c.run.char (strength o.run c.run) →
     Closes next a b (lower ++ less_opener (strength o.run c.run) o) (less_closer (strength o.run c.run) c) rest goal
 closes_pair marks next a b lower o upper c rest goal s l miss e p = record {
   stands = pair_stands marks next a b lower o upper c rest s.stands l p;
@@ -82,9 +82,7 @@ closing_and false o d y e = refl
 pub no_closing : (k c : Run) → c.closes ≡ false → matches k c ≡ false
 unfolding matches
 no_closing k c e =
-    closing_and (k.char == c.char) k.opens c.closes
-    (not ((opens_and_closes k || opens_and_closes c) && is_multiple_of_3 (k.length + c.length)) ||
-    (is_multiple_of_3 k.length && is_multiple_of_3 c.length)) e
+    closing_and (k.char == c.char) k.opens c.closes (fits_in_length k c) e
 
 pub none_closes : (c : Run) (stack : List Placed) → c.closes ≡ false → AllMiss c stack
 none_closes c [] e = tt

@@ -21,10 +21,10 @@ nearest_placed closer (placed ∷ more) =
       | None ↦ elim (matches placed.run closer) [ true ↦ Some (record { lower = []; opener = placed }) | false ↦ None ]
     ]
 
--- n delimiters from each of two places become a start and an end
-unfoldable pub paired : Marks → ℕ → ℕ → ℕ → Marks
-paired marks opening closing n =
-    let ends : Marks = set (set marks opening (Start (span_of n) ∷ [])) closing (End (span_of n) ∷ []) in
+-- n delimiters of this character from each of two places become a start and an end
+unfoldable pub paired : Marks → ℕ → ℕ → ℕ → ℕ → Marks
+paired marks opening closing char n =
+    let ends : Marks = set (set marks opening (Start (span_of char n) ∷ [])) closing (End (span_of char n) ∷ []) in
     elim (n == 2) [ true ↦ set (set ends (suc opening) []) (suc closing) [] | false ↦ ends ]
 
 -- the marks, the stack and the present run
@@ -38,7 +38,7 @@ abbrev pub pair_in_place : Closing → StackOpener → Closing
 pair_in_place s found =
     let n : ℕ = strength found.opener.run s.closer.run in
     record {
-      marks = paired s.marks (found.opener.first + (found.opener.run.left - n)) s.closer.first n;
+      marks = paired s.marks (found.opener.first + (found.opener.run.left - n)) s.closer.first s.closer.run.char n;
       stack = found.lower ++ less_opener n found.opener;
       closer = less_closer n s.closer;
     }

@@ -53,11 +53,11 @@ IsFinal (inline ∷ more) = IsFinal more
 abbrev pub ArePlain : Marks → Type 0
 ArePlain marks = (i : ℕ) → NoRun (get_or marks i [])
 
--- the marks when n delimiters from each of two places have become a start and an end
-pub record IsPaired (marks next : Marks) (opening closing n : ℕ) : Type 0 where
-  pub start : get_or next opening [] ≡ Start (span_of n) ∷ []
+-- the marks when n delimiters of this character from each of two places have become a start and an end
+pub record IsPaired (marks next : Marks) (opening closing char n : ℕ) : Type 0 where
+  pub start : get_or next opening [] ≡ Start (span_of char n) ∷ []
   pub start_second : n ≡ 2 → get_or next (suc opening) [] ≡ []
-  pub stop : get_or next closing [] ≡ End (span_of n) ∷ []
+  pub stop : get_or next closing [] ≡ End (span_of char n) ∷ []
   pub stop_second : n ≡ 2 → get_or next (suc closing) [] ≡ []
   pub before : (i : ℕ) → i < opening → get_or marks i [] ≡ get_or next i []
   pub between : (i : ℕ) → opening + n ≤ i → i < closing → get_or marks i [] ≡ get_or next i []

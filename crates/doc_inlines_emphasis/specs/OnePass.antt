@@ -2,16 +2,18 @@
 -- an opener before it, and then passed for good. What is passed stands nearest first.
 use Rattle.std.specs.Prelude.{ℕ, zero, suc, ◌-◌, nat_lt, true, false, ◌||◌, List, [], ◌∷◌, ◌++◌, reverse, flat_map, Some, None}
 use Rattle.std.specs.Prelude.{if◌then◌else◌}
-use Rattle.doc_rules.specs.Inlines.{Start, End, Run, Inline, Delimiters, Open, run_text, bracket_text, as_text, onto}
+use Rattle.doc_rules.specs.Inlines.{Span, Start, End, Run, Inline, Delimiters, Open, run_text, bracket_text, as_text, onto}
 use Rattle.doc_rules.specs.Emphasis.{Opener, opener_of, strength, span_of, less}
 
 -- what a run is once it is passed: it stays where it may open, else it is text
 unfoldable pub kept : Run → List Inline
 kept run = if run.opens then Delimiters run ∷ [] else run_text run
 
--- what stands before the delimiters that are left of a closer, when a pair with this opener took n of each
-abbrev pub behind_pair : Opener → ℕ → List Inline
-behind_pair opener n = End (span_of n) ∷ onto opener.between (Start (span_of n) ∷ (less n opener.run ++ opener.before))
+-- what stands before the delimiters that are left of a closer of this character, when a pair with this opener took n of each
+abbrev pub behind_pair : Opener → ℕ → ℕ → List Inline
+behind_pair opener char n =
+    let span : Span = span_of char n in
+    End span ∷ onto opener.between (Start span ∷ (less n opener.run ++ opener.before))
 
 -- a run passed behind what stands before it, by n pairs at most
 unfoldable pub closed : ℕ → Run → List Inline → List Inline
@@ -20,8 +22,8 @@ closed (suc n) run before =
     elim (opener_of run [] before) [
       | None ↦ kept run ++ before
       | Some opener ↦ elim (nat_lt (strength opener.run run) run.left) [
-        | true ↦ closed n (record run { left = run.left - strength opener.run run }) (behind_pair opener (strength opener.run run))
-        | false ↦ behind_pair opener (strength opener.run run)
+        | true ↦ closed n (record run { left = run.left - strength opener.run run }) (behind_pair opener run.char (strength opener.run run))
+        | false ↦ behind_pair opener run.char (strength opener.run run)
       ]
     ]
 

@@ -5,13 +5,27 @@ use Rattle.std.specs.Prelude.{Some, None, if◌then◌else◌}
 use Rattle.doc_rules.specs.Inlines.{Run}
 use Rattle.doc_rules.specs.Emphasis.{matches}
 
--- all that a match asks of a closer: its character, whether it also opens, and its length modulo 3
+-- all that a match asks of a closer: its character, whether it also opens, and its length modulo 3, or of '~' its length
 unfoldable pub closer_kind : Run → ℕ
-closer_kind run = (if run.char == 42 then 6 else 0) + ((if run.opens then 3 else 0) + run.length % 3)
+closer_kind run =
+    if run.char == 126 then if run.length == 2 then 13 else 12
+    else (if run.char == 42 then 6 else 0) + ((if run.opens then 3 else 0) + run.length % 3)
 
--- a run of '*' or '_' that may close
+-- '*' or '_'
+abbrev pub IsEmphasis : ℕ → Type 0
+IsEmphasis c = (c ≡ 42) ⊎ (c ≡ 95)
+
+-- one or two '~'
+abbrev pub IsStrike : ℕ → ℕ → Type 0
+IsStrike c n = (c ≡ 126) × ((n ≡ 1) ⊎ (n ≡ 2))
+
+-- a run of this character is as long as it may be
+abbrev pub IsDelimiter : ℕ → ℕ → Type 0
+IsDelimiter c n = IsEmphasis c ⊎ IsStrike c n
+
+-- a run that may close
 abbrev pub IsCloser : Run → Type 0
-IsCloser run = (run.closes ≡ true) × ((run.char ≡ 42) ⊎ (run.char ≡ 95))
+IsCloser run = (run.closes ≡ true) × IsDelimiter run.char run.length
 
 -- ---- the nearest opener
 

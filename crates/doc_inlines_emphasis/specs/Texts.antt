@@ -2,15 +2,16 @@
 use Rattle.std.specs.Prelude.{◌≡◌, ℕ, suc, Bool, List, [], ◌∷◌, ◌++◌, replicate, chars, ⊤}
 use Rattle.doc_rules.specs.Characters as rules
 use Rattle.doc_inlines_emphasis.specs.Marks.{Placed}
-use Rattle.doc_inlines_emphasis.specs.RunSteps.{delimiter}
+use Rattle.doc_inlines_emphasis.specs.declared.delimiter.Delimiter.{Delimiter}
+use Rattle.doc_inlines_emphasis.specs.RunSteps.{delimiter, length_by}
 use Rattle.doc_inlines_marks.specs.declared.mark_ref.MarkRef.{MarkRef}
 use Rattle.doc_inlines_marks.specs.declared.mark_ref.MarkRef.TheVariants.{Text}
 
--- one or more '*', or one or more '_'
-pub record IsRunText (text : rules.Text) : Type 0 where
-  pub star : Bool
+-- one or more of this delimiter; of '~' one or two
+pub record IsRunText (own : Delimiter) (text : rules.Text) : Type 0 where
   pub more : ℕ
-  pub is : text ≡ replicate (suc more) (delimiter star)
+  pub is : text ≡ replicate (suc more) (delimiter own)
+  pub fits : length_by own (suc more) ≡ suc more
 
 -- the text of this character alone
 abbrev pub IsTextOf : ℕ → MarkRef → Type 0

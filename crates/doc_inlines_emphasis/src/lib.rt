@@ -7,6 +7,7 @@
 //! pass over the runs there (`pass`), which then leave; what is left of them stays the text that its marks are.
 #![tactic(auto)]
 
+mod delimiter;
 pub mod laws;
 mod marks;
 mod openers;
@@ -14,4 +15,5 @@ mod pair;
 mod pass;
 mod run;
 
+pub use delimiter::Delimiter;
 pub use marks::{Marks, Place};

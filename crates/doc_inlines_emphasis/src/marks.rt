@@ -10,6 +10,7 @@ ghost use Rattle.doc_inlines_emphasis.specs.RunSteps.{delimiter as character};
 ghost use Rattle.doc_inlines_emphasis.specs.Views.{items_of, marks_in, runs_in, shown_between, IsSound, IsPlace};
 ghost use Rattle.doc_inlines_emphasis.specs.Texts.{IsRunText, AddsEach, fresh_run};
 
+use crate::delimiter::Delimiter;
 use crate::openers::Openers;
 use crate::pair::put;
 use crate::pass::pass;
@@ -70,10 +71,16 @@ impl<'t, 'r> Marks<'t, 'r> {
         Ok(())
     }
 
-    /// A run comes behind all, with a mark for each of its delimiters. Its text is one or more `*`, or one or more `_`.
-    pub fn push_run(&mut self, text: &'t str, opens: bool, closes: bool) -> Result<(), Memory>
+    /// A run comes behind all, with a mark for each of its delimiters, which are its text. Of `~` there are one or two.
+    pub fn push_run(
+        &mut self,
+        text: &'t str,
+        delimiter: Delimiter,
+        opens: bool,
+        closes: bool,
+    ) -> Result<(), Memory>
         requires sound { IsSound self.old }
-        requires text { IsRunText (chars text.now) }
+        requires text { IsRunText delimiter (chars text.now) }
         ensures items { OnOk result (AddsEach (items_of self.old) (items_of self.new)
             (chars text.now)) }
         ensures runs { OnOk result ((n c : ℕ) → chars text.now ≡ replicate (suc n) c
@@ -85,13 +92,12 @@ impl<'t, 'r> Marks<'t, 'r> {
     {
         let first = self.marks.len();
         let length = text.len();
-        let star = text.as_bytes()[0] == b'*';
-        push_delimiters(&mut self.marks, star, length)?;
+        push_delimiters(&mut self.marks, delimiter, length)?;
         self.runs.push(Run {
             first,
             left: length,
             length,
-            star,
+            delimiter,
             opens,
             closes,
         })?;
@@ -166,24 +172,15 @@ impl<'t, 'r> Marks<'t, 'r> {
 /// So many delimiters come behind the marks.
 fn push_delimiters<'t, 'r>(
     marks: &mut Vec<MarkRef<'t, 'r>>,
-    star: bool,
+    delimiter: Delimiter,
     length: usize,
 ) -> Result<(), Memory>
     ensures { OnOk result (AddsEach marks.old.items marks.new.items
-        (replicate length (character star))) }
+        (replicate length (character delimiter))) }
 {
-    let text = delimiter(star);
+    let text = delimiter.text();
     for _ in 0..length {
         marks.push(MarkRef::Text(text))?;
     }
     Ok(())
-}
-
-fn delimiter(star: bool) -> &'static str
-    ensures { chars result.now ≡ character star ∷ [] }
-{
-    if star {
-        return "*";
-    }
-    "_"
 }

@@ -1,5 +1,5 @@
-//! The runs that may still open: a stack of their numbers, and for each of 12 kinds of closers (by character, by whether it may open too,
-//! and by its length modulo 3) a lower bound, below which none opens for it. A search goes down from the top and ends at the bound.
+//! The runs that may still open: a stack of their numbers, and for each of 14 kinds of closers (by character, by whether it may open too,
+//! and by its length modulo 3, or of `~` by its length) a lower bound, below which none opens for it. A search goes down from the top and ends at the bound.
 ghost use Rattle.std.specs.Prelude.{◌≡◌, ◌+◌, ◌<◌, true, if◌then◌else◌, [], length, replicate, take, OnOk};
 ghost use Rattle.doc_inlines_emphasis.specs.Openers.{NearestIs, AreBounds, Ascend, StandBefore};
 ghost use Rattle.doc_inlines_emphasis.specs.NumberSteps.{run_numbered, joined_openers};
@@ -15,7 +15,7 @@ use doc_page_parts::heap::{Heap, Vec};
 #[derive(Drop)]
 pub(crate) struct Openers {
     pub(crate) numbers: Vec<usize>,
-    pub(crate) bounds: [usize; 12],
+    pub(crate) bounds: [usize; 14],
     pub(crate) looked: u64,
 }
 
@@ -23,7 +23,7 @@ impl Openers {
     pub(crate) fn new(heap: Heap) -> Openers {
         Openers {
             numbers: Vec::new(heap),
-            bounds: [0; 12],
+            bounds: [0; 14],
             looked: 0,
         }
     }
@@ -31,10 +31,10 @@ impl Openers {
     /// None at first.
     pub(crate) fn start(&mut self)
         ensures numbers { self.new.numbers.items ≡ [] }
-        ensures bounds { self.new.bounds ≡ replicate 12 0 }
+        ensures bounds { self.new.bounds ≡ replicate 14 0 }
     {
         self.numbers.clear();
-        self.bounds = [0; 12];
+        self.bounds = [0; 14];
     }
 
     /// The place on the stack of the nearest opener for the run of this number. Where there is none, none that stands on it now is
@@ -90,7 +90,7 @@ impl Openers {
 fn nearest(
     runs: &[Run],
     numbers: &[usize],
-    bounds: &[usize; 12],
+    bounds: &[usize; 14],
     closer: Run,
     looked: &mut u64,
 ) -> Option<usize>

@@ -4,10 +4,11 @@ ghost use Rattle.doc_inlines_emphasis.specs.InPlace.{paired};
 ghost use Rattle.doc_inlines_emphasis.specs.Openers.{NearestIs};
 ghost use Rattle.doc_inlines_emphasis.specs.NumberSteps.{numbered, run_numbered, paired_runs};
 ghost use Rattle.doc_inlines_emphasis.specs.PassSteps.{OneOrTwo, Stacked};
-ghost use Rattle.doc_inlines_emphasis.specs.RunSteps.{all_placed};
+ghost use Rattle.doc_inlines_emphasis.specs.RunSteps.{delimiter, all_placed};
 ghost use Rattle.doc_inlines_emphasis.specs.Steps.{Keeps, StandAt, GoesOn};
 ghost use Rattle.doc_inlines_emphasis.specs.Views.{marks_shown};
 
+use crate::delimiter::Delimiter;
 use crate::openers::Openers;
 use crate::run::{Run, span};
 use doc_inlines_marks::mark_ref::{MarkRef, SpanRef};
@@ -23,21 +24,22 @@ pub(crate) fn put<T: Copy, A: Allocator>(items: &mut std::vec::Vec<T, A>, at: us
     items[at] = item;
 }
 
-/// So many delimiters from each of two places on become a start and an end. Of two the second is an empty text then.
+/// So many of a delimiter from each of two places on become a start and an end. Of two the second is an empty text then.
 fn write_ends<'t, 'r>(
     marks: &mut Vec<MarkRef<'t, 'r>>,
     opening: usize,
     closing: usize,
+    own: Delimiter,
     taken: usize,
 )
     requires taken { OneOrTwo taken }
     requires order { opening + taken ≤ closing }
     requires within { closing + taken ≤ length marks.old.items }
     ensures shown { marks_shown marks.new.items
-        ≡ paired (marks_shown marks.old.items) opening closing taken }
+        ≡ paired (marks_shown marks.old.items) opening closing (delimiter own) taken }
     ensures keeps { (place : ℕ) → place ≤ opening → Keeps place marks.old.items marks.new.items }
 {
-    let span: SpanRef<'t, 'r> = span(taken);
+    let span: SpanRef<'t, 'r> = span(own, taken);
     put(marks, opening, MarkRef::Start(span));
     put(marks, closing, MarkRef::End(span));
     if taken != 2 {
@@ -103,6 +105,7 @@ pub(crate) fn pair<'t, 'r>(
         marks,
         opens.first + (opens.left - taken),
         closes.first,
+        closes.delimiter,
         taken,
     );
     take_delimiters(runs, opener, number, taken);

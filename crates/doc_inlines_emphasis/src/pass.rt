@@ -9,7 +9,7 @@
 //!    stack, since they stand between, and so does the opener where none of it is left;
 //! 3. what is left of the run joins the stack, where it may open (`Openers::join`).
 //!
-//! An opener that a search looks at in vain leaves the stack, or isn't looked at again for a closer of that kind, of which there are 12: so
+//! An opener that a search looks at in vain leaves the stack, or isn't looked at again for a closer of that kind, of which there are 14: so
 //! the time is linear in the number of delimiters.
 ghost use Rattle.std.specs.Prelude.{◌≡◌, ◌<◌, ℕ, length, OnOk};
 ghost use Rattle.doc_inlines_emphasis.specs.Marks.{ArePlaced};

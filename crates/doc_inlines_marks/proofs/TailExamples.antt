@@ -4,12 +4,12 @@ use Rattle.std.specs.Prelude.{Some, None, codes}
 use Prim.Native.String.{String}
 use Rattle.doc_rules.proofs.Computing.{inline_words}
 use Rattle.doc_rules.specs.Definitions.{definitions_of}
-use Rattle.doc_rules.specs.Entities.{built_in}
+use Rattle.doc_rules.specs.Rules.{built_in_rules}
 use Rattle.doc_rules.specs.Links.{Tail, inline_tail, link_tail}
 
 -- the inline tail of a text
 abbrev tail_of : String → Tail
-tail_of rest = inline_tail built_in (codes rest)
+tail_of rest = inline_tail built_in_rules (codes rest)
 
 -- a tail without a title, and one with a title, with the text behind it
 abbrev leads_to : String → String → Tail
@@ -55,7 +55,7 @@ no_inline_tails = (refl, refl, refl, refl, refl, refl)
 
 -- the tail behind this text between brackets, where these definitions stand
 abbrev tail_behind : String → String → String → Tail
-tail_behind definitions between rest = link_tail built_in (definitions_of built_in (codes definitions)).0 (codes between) (codes rest)
+tail_behind definitions between rest = link_tail built_in_rules (definitions_of built_in_rules (codes definitions)).0 (codes between) (codes rest)
 
 references :
     (tail_behind "[foo]: /url 't'\n" "text" "[Foo] more" ≡ leads_to_titled "/url" "t" " more")

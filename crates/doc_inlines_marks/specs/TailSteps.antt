@@ -2,7 +2,7 @@
 use Rattle.std.specs.Prelude.{Option, Some, None, chars}
 use denote.Ref.{Bor}
 use Rattle.doc_rules.specs.Characters.{Text}
-use Rattle.doc_rules.specs.Entities.{Table}
+use Rattle.doc_rules.specs.Rules.{Rules}
 use Rattle.doc_rules.specs.Destinations.{target_of}
 use Rattle.doc_rules.specs.Links.{Tail}
 use Rattle.doc_refs_parts.specs.Sources.{text_shown}
@@ -16,6 +16,6 @@ tail_shown None = None
 tail_shown (Some tail) = Some (named tail.0, chars tail.1.now)
 
 -- the tail that the parts of an inline tail are
-abbrev pub source_tail : Table → Option TailSource → Tail
-source_tail table None = None
-source_tail table (Some source) = Some (target_of table (chars source.dest.now) (text_shown source.title), chars source.rest.now)
+abbrev pub source_tail : Rules → Option TailSource → Tail
+source_tail rules None = None
+source_tail rules (Some source) = Some (target_of rules (chars source.dest.now) (text_shown source.title), chars source.rest.now)

@@ -12,6 +12,7 @@ use Rattle.doc_inlines_marks.specs.declared.mark_ref.MarkRef.TheVariants.{Text, 
 unfoldable pub span_shown : SpanRef → rules.Span
 span_shown span.Emphasis = rules.Emphasis
 span_shown span.Strong = rules.Strong
+span_shown span.Strike = rules.Strike
 span_shown (span.Link target) = rules.Link (named target.now)
 span_shown (span.Image target) = rules.Image (named target.now)
 

@@ -1,7 +1,7 @@
 //! Inline links: `(`, a destination, a title and `)` behind the `]` (CommonMark 0.31.2, section 6.3).
 ghost use Rattle.std.specs.Prelude.{◌≡◌, chars, IfSome};
 ghost use Rattle.doc_rules.specs.Rests.{IsRest};
-ghost use Rattle.doc_rules.specs.Entities.{Table};
+ghost use Rattle.doc_rules.specs.Rules.{Rules};
 ghost use Rattle.doc_rules.specs.Destinations.{target_of};
 ghost use Rattle.doc_rules.specs.Links.{closed, title_tail, destination_tail, inline_tail};
 ghost use Rattle.doc_refs_parts.specs.Sources.{text_shown};
@@ -24,8 +24,8 @@ pub struct TailSource<'t> {
 /// The inline tail at the front of a text. A destination may be missing only where the title is too, which is this project's choice.
 #[tactic(auto, unfolding(doc_rules::specs::Links::inline_tail), using(doc_refs_parts::proofs::Rests::destination_rest))]
 pub fn inline_tail(rest: &str) -> Option<TailSource>
-    ensures value { (table : Table)
-        → source_tail table result ≡ inline_tail table (chars rest.now) }
+    ensures value { (rules : Rules)
+        → source_tail rules result ≡ inline_tail rules (chars rest.now) }
     ensures end { IfSome result (λ source. IsRest (chars source.rest.now) (chars rest.now)) }
 {
     let start = spacing(is(rest, '(')?);
@@ -38,8 +38,8 @@ pub fn inline_tail(rest: &str) -> Option<TailSource>
 /// Behind a destination: a title that spacing sets off, or none, and the `)`.
 #[tactic(auto, unfolding(doc_rules::specs::Links::destination_tail), using(doc_refs_parts::proofs::Rests::title_rest))]
 fn destination_tail<'t>(dest: &'t str, text: &'t str) -> Option<TailSource<'t>>
-    ensures value { (table : Table)
-        → source_tail table result ≡ destination_tail table (chars dest.now) (chars text.now) }
+    ensures value { (rules : Rules)
+        → source_tail rules result ≡ destination_tail rules (chars dest.now) (chars text.now) }
     ensures end { IfSome result (λ source. IsRest (chars source.rest.now) (chars text.now)) }
 {
     let Some(start) = some_spacing(text) else {
@@ -54,9 +54,9 @@ fn destination_tail<'t>(dest: &'t str, text: &'t str) -> Option<TailSource<'t>>
 /// Spacing and the `)`.
 #[tactic(auto, unfolding(doc_rules::specs::Links::closed))]
 fn closed<'t>(dest: &'t str, title: Option<&'t str>, text: &'t str) -> Option<TailSource<'t>>
-    ensures value { (table : Table)
-        → source_tail table result ≡ closed
-        (target_of table (chars dest.now) (text_shown title.entry)) (chars text.now) }
+    ensures value { (rules : Rules)
+        → source_tail rules result ≡ closed
+        (target_of rules (chars dest.now) (text_shown title.entry)) (chars text.now) }
     ensures end { IfSome result (λ source. IsRest (chars source.rest.now) (chars text.now)) }
 {
     let rest = is(spacing(text), ')')?;

@@ -2,11 +2,12 @@
 
 use crate::target_ref::TargetRef;
 
-/// What inlines may stand in (CommonMark 0.31.2, sections 6.2 to 6.4).
+/// What inlines may stand in (CommonMark 0.31.2, sections 6.2 to 6.4), also what is struck through (GFM 0.29, section 6.5).
 #[derive(Clone, Copy)]
 pub enum SpanRef<'t, 'r> {
     Emphasis,
     Strong,
+    Strike,
     Link(&'r TargetRef<'t, 'r>),
     Image(&'r TargetRef<'t, 'r>),
 }

@@ -1,6 +1,6 @@
 //! Texts with their escapes and references read, which are copied only where that changes them.
 ghost use Rattle.std.specs.Prelude.{◌≡◌, chars, true, IfOk};
-ghost use Rattle.doc_rules.specs.Entities.{Table};
+ghost use Rattle.doc_rules.specs.Rules.{Rules};
 ghost use Rattle.doc_rules.specs.Escapes.{unescape};
 ghost use Rattle.doc_inlines_marks.specs.EscapeSteps.{begins_escape};
 ghost use Rattle.doc_inlines_marks.specs.Targets.{read_of};
@@ -57,7 +57,7 @@ pub fn without_escapes<'t>(
 
 /// Whether a text has neither `\` nor `&`.
 fn is_plain(text: &str) -> bool
-    ensures { result ≡ true → (table : Table) → unescape table (chars text.now) ≡ chars text.now }
+    ensures { result ≡ true → (rules : Rules) → unescape rules (chars text.now) ≡ chars text.now }
 {
     until(text, begins_escape).is_empty()
 }

@@ -4,6 +4,7 @@ use Rattle.std.specs.Prelude.{codes}
 use Rattle.doc_page_parts.specs.Lines.{lines, without_ending}
 use Rattle.doc_rules.specs.Entities.{built_in}
 use Rattle.doc_rules.specs.Escapes.{find_entity, number}
+use Rattle.doc_rules.specs.Rules.{plain_rules}
 use Rattle.doc_lines.specs.declared.entities.TableError.TheVariants.{BadRow, Twice}
 use Rattle.doc_lines.specs.Tables.{entity_of, bad_line, entities_in, twice_line, with_entities, entities_of}
 
@@ -23,15 +24,16 @@ two_spaces : entity_of (codes "a  41") ≡ None
 unfolding entity_of without_ending number
 two_spaces = refl
 
-blank_lines : entities_of (codes "\n \t\r\n") ≡ Ok (built_in ++ [])
+blank_lines : entities_of (codes "\n \t\r\n") ≡ Ok (plain_rules (built_in ++ []))
 unfolding lines without_ending entity_of bad_line entities_in twice_line with_entities
 blank_lines = refl
 
-same_characters : entities_of (codes "copy A9") ≡ Ok (built_in ++ [])
+same_characters : entities_of (codes "copy A9") ≡ Ok (plain_rules (built_in ++ []))
 unfolding lines without_ending number entity_of bad_line entities_in twice_line with_entities find_entity built_in
 same_characters = refl
 
-in_their_order : entities_of (codes "zwp 200B\rAMP 26") ≡ Ok (built_in ++ (codes "AMP", 0x26 ∷ []) ∷ (codes "zwp", 0x200B ∷ []) ∷ [])
+in_their_order : entities_of (codes "zwp 200B\rAMP 26") ≡ Ok (plain_rules
+    (built_in ++ (codes "AMP", 0x26 ∷ []) ∷ (codes "zwp", 0x200B ∷ []) ∷ []))
 unfolding lines without_ending number entity_of bad_line entities_in twice_line with_entities find_entity built_in
 in_their_order = refl
 

@@ -3,4 +3,5 @@ pub mod Entities
 pub mod Lines
 pub mod MeaningSteps
 pub mod RestSteps
+pub mod Rules
 pub mod Tables

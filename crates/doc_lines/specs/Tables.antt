@@ -10,6 +10,7 @@ use Rattle.std.specs.Ordering.{nat_cmp}
 use Rattle.doc_page_parts.specs.Lines.{lines, without_ending, is_space_or_tab}
 use Rattle.doc_rules.specs.Characters.{Text}
 use Rattle.doc_rules.specs.Entities.{Entity, Table, built_in}
+use Rattle.doc_rules.specs.Rules.{Rules, plain_rules}
 use Rattle.doc_rules.specs.Escapes.{find_entity, number}
 use Rattle.doc_lines.specs.declared.entities.TableError.{TableError}
 use Rattle.doc_lines.specs.declared.entities.TableError.TheVariants.{BadRow, Twice, Memory}
@@ -99,14 +100,14 @@ unfoldable pub with_entities : Table → Table → Table
 with_entities added [] = added
 with_entities added (entity ∷ more) = with_entities (with_entity added entity) more
 
--- the table that these lines make, of which the first that is no row and the first that contradicts are these
-abbrev pub table_of : List (List ℕ) → Option ℕ → Option ℕ → Result Table TableError
+-- the rules that these lines make, of which the first that is no row and the first that contradicts are these
+abbrev pub table_of : List (List ℕ) → Option ℕ → Option ℕ → Result Rules TableError
 table_of all (Some n) twice = Err (BadRow n)
 table_of all None (Some n) = Err (Twice n)
-table_of all None None = Ok (built_in ++ with_entities [] (entities_in all))
+table_of all None None = Ok (plain_rules (built_in ++ with_entities [] (entities_in all)))
 
--- the table that a text makes: the first line that is no row is refused before any that contradicts
-abbrev pub entities_of : List ℕ → Result Table TableError
+-- the rules that a text makes, without any extension: the first line that is no row is refused before any that contradicts
+abbrev pub entities_of : List ℕ → Result Rules TableError
 entities_of text = table_of (lines text) (bad_line 1 (lines text)) (twice_line built_in 1 (lines text))
 
 -- what may be answered in place of the added entities where this line is the first that contradicts

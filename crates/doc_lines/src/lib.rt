@@ -7,6 +7,7 @@ pub mod cursor;
 pub mod entities;
 mod escapes;
 pub mod lines;
+pub mod options;
 pub mod pushing;
 pub mod scan;
 mod tags;

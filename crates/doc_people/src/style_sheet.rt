@@ -138,6 +138,9 @@ th, td { padding: 0.4rem 1rem 0.4rem 0; border-bottom: 1px solid var(--line); te
 .broken code { overflow-wrap: anywhere; }
 thead th { color: var(--faint); font-size: 0.9rem; }
 tbody th { padding-top: 1.2rem; }
+article :is(th, td)[align="center"] { padding-left: 1rem; text-align: center; }
+article :is(th, td)[align="right"] { padding-left: 1rem; text-align: right; }
+article input[type="checkbox"] { width: auto; margin: 0 0.2em 0 0; }
 mark { background: var(--mark); color: inherit; border-radius: 0.2rem; padding: 0 0.1em; }
 .path { color: var(--faint); font-size: 0.88rem; font-weight: 400; }
 .list { padding: 0; list-style: none; }

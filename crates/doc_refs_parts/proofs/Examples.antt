@@ -6,7 +6,7 @@ use Prim.Native.String.{String}
 use Rattle.doc_rules.proofs.Computing.{reference_words}
 use Rattle.doc_rules.specs.Definitions.{Definition, definitions_of, find_reference}
 use Rattle.doc_rules.specs.Destinations.{Target, balanced}
-use Rattle.doc_rules.specs.Entities.{built_in}
+use Rattle.doc_rules.specs.Rules.{built_in_rules}
 use Rattle.doc_rules.specs.Labels.{normal_label}
 use Rattle.doc_refs_parts.specs.ParenthesisSteps.{finish, ends_at}
 use Rattle.doc_refs_parts.specs.Targets.{Targets, targets_of, joined, single}
@@ -16,7 +16,7 @@ use Rattle.doc_refs_parts.proofs.MapLaws.{finds_the_reference, joins_definitions
 
 -- the definitions at the front of a text
 abbrev in_text : String → List Definition
-in_text text = (definitions_of built_in (codes text)).0
+in_text text = (definitions_of built_in_rules (codes text)).0
 
 -- what the label names in the map
 abbrev names : Targets → String → Option Target

@@ -109,7 +109,8 @@ wraps_at_run before r after next more (Some o) f e =
     let same : wrapped o r after ≡ next = cc in
     let h : Fits [] before o = opener_fits r [] before o f in
     let w : weight (wrapped o r after) < (weight o.between + (suc o.run.left + weight o.before)) + (suc r.left + weight after) =
-    wrapped_weighs o r after (strength o.run r) (span_of (strength o.run r)) (strong_counts (nat_le 2 o.run.left && nat_le 2 r.left)) in
+    wrapped_weighs o r after (strength o.run r) (span_of r.char (strength o.run r))
+    (strong_counts (nat_le 2 o.run.left && nat_le 2 r.left)) in
     let here : weight (wrapped o r after) < weight before + (suc r.left + weight after) = omega arith in
     subst (λ ys. weight ys < weight before + (suc r.left + weight after)) same here
 wraps_at_run before r after next more None f e =

@@ -93,7 +93,7 @@ filling_is_by_bytes linker shown alike page = pieces_encoded linker shown alike 
 
 pub filled_pages_are_html : FilledPagesAreHtml
 unfolding page_of document_page html_of
-filled_pages_are_html table text linker shown alike =
-    let document : Document = document_of table text in
-    let output : Output = output_of table (document_anchors table document) document in
-    filling_is_by_bytes linker shown alike (document_page table document) ∙ ap encode_utf8_all (pieces_join linker output)
+filled_pages_are_html rules text linker shown alike =
+    let document : Document = document_of rules text in
+    let output : Output = output_of rules (document_anchors rules document) document in
+    filling_is_by_bytes linker shown alike (document_page rules document) ∙ ap encode_utf8_all (pieces_join linker output)

@@ -5,6 +5,7 @@ use Rattle.doc_rules.proofs.Computing.{reference_words}
 use Rattle.doc_rules.specs.Lines.{lines_of, line_content}
 use Rattle.doc_rules.specs.Columns.{columns_of, cells_of, skip, text_of}
 use Rattle.doc_rules.specs.Entities.{built_in}
+use Rattle.doc_rules.specs.Rules.{plain_rules, built_in_rules}
 use Rattle.doc_rules.specs.Escapes.{unescape, find_entity}
 use Rattle.doc_rules.specs.Tags.{html_tag, raw_html}
 use Rattle.doc_rules.specs.Autolinks.{uri, mail}
@@ -40,12 +41,12 @@ skipped = (refl, refl, refl, refl)
 
 -- ---- escapes and references (2.4, 2.5)
 
-references : unescape built_in (codes "&#0; &copy &ngE; &MadeUpEntity;") ≡ 0xFFFD ∷ codes " &copy "
+references : unescape built_in_rules (codes "&#0; &copy &ngE; &MadeUpEntity;") ≡ 0xFFFD ∷ codes " &copy "
     ++ (0x2267 ∷ 0x338 ∷ codes " &MadeUpEntity;")
 unfolding reference_words
 references = refl
 
-escapes : unescape built_in (codes "&#42;foo&#x2A;\\*\\a&diams;\\\\&#38;lt;\\") ≡ codes "*foo**\\a" ++ (0x2666 ∷ codes "\\&lt;\\")
+escapes : unescape built_in_rules (codes "&#42;foo&#x2A;\\*\\a&diams;\\\\&#38;lt;\\") ≡ codes "*foo**\\a" ++ (0x2666 ∷ codes "\\&lt;\\")
 unfolding reference_words
 escapes = refl
 
@@ -62,7 +63,7 @@ unfolding reference_words
 names = (refl, refl, refl, refl, refl, refl, refl)
 
 -- a table handed in may stand before the built-in names
-own_names : unescape ((codes "zwp", 0x200B ∷ []) ∷ (codes "nul", 0 ∷ []) ∷ built_in) (codes "&zwp;&nul;&lt;") ≡ 0x200B ∷ 0 ∷ codes "<"
+own_names : unescape (plain_rules ((codes "zwp", 0x200B ∷ []) ∷ (codes "nul", 0 ∷ []) ∷ built_in)) (codes "&zwp;&nul;&lt;") ≡ 0x200B ∷ 0 ∷ codes "<"
 unfolding reference_words
 own_names = refl
 
@@ -178,7 +179,7 @@ normal_labels = (refl, refl, refl, refl, refl)
 -- ---- definitions (4.7)
 
 two_definitions :
-    definitions_of built_in (codes "[foo]: /url 'a&amp;b'\n [Bar]:\n<x y>\n===")
+    definitions_of built_in_rules (codes "[foo]: /url 'a&amp;b'\n [Bar]:\n<x y>\n===")
     ≡ (
       record { label = codes "foo"; target = record { dest = codes "/url"; title = Some (codes "a&b") } }
           ∷ record { label = codes "Bar"; target = record { dest = codes "x y"; title = None } }
@@ -190,20 +191,20 @@ two_definitions = refl
 
 -- a title that fails on its own line is text, and one that fails on the destination's line undoes the definition
 failed_titles :
-    (definitions_of built_in (codes "[foo]: /url\n\"title\" ok")
+    (definitions_of built_in_rules (codes "[foo]: /url\n\"title\" ok")
     ≡ (record { label = codes "foo"; target = record { dest = codes "/url"; title = None } } ∷ [], codes "\"title\" ok"))
-    × (definitions_of built_in (codes "[foo]: /url \"title\" ok") ≡ ([], codes "[foo]: /url \"title\" ok"))
+    × (definitions_of built_in_rules (codes "[foo]: /url \"title\" ok") ≡ ([], codes "[foo]: /url \"title\" ok"))
 unfolding reference_words
 failed_titles = (refl, refl)
 
 -- at most 3 spaces before, at most one line ending before a destination and before a title
 margins :
-    ((definitions_of built_in (codes "   [a]: b")).1 ≡ [])
-    × ((definitions_of built_in (codes "    [a]: b")).1 ≡ codes "    [a]: b")
-    × ((definitions_of built_in (codes "[a]:\r\nb\r\n'c'\r\nd")).1 ≡ codes "d")
-    × ((definitions_of built_in (codes "[a]:\n\nb")).1 ≡ codes "[a]:\n\nb")
-    × ((definitions_of built_in (codes "[a]: b\n\n'c'")).1 ≡ codes "\n'c'")
-    × ((definitions_of built_in (codes "[a] : b")).1 ≡ codes "[a] : b")
+    ((definitions_of built_in_rules (codes "   [a]: b")).1 ≡ [])
+    × ((definitions_of built_in_rules (codes "    [a]: b")).1 ≡ codes "    [a]: b")
+    × ((definitions_of built_in_rules (codes "[a]:\r\nb\r\n'c'\r\nd")).1 ≡ codes "d")
+    × ((definitions_of built_in_rules (codes "[a]:\n\nb")).1 ≡ codes "[a]:\n\nb")
+    × ((definitions_of built_in_rules (codes "[a]: b\n\n'c'")).1 ≡ codes "\n'c'")
+    × ((definitions_of built_in_rules (codes "[a] : b")).1 ≡ codes "[a] : b")
 unfolding reference_words
 margins = (refl, refl, refl, refl, refl, refl)
 

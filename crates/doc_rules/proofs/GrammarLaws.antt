@@ -8,7 +8,7 @@ use Rattle.std.specs.Char.{is_ascii_control}
 use Rattle.doc_rules.specs.Characters.{Text, one_of, none_of, is_space_or_tab}
 use Rattle.doc_rules.specs.Parsers.{one, is, word, ◌then◌, ◌or◌, maybe, many, some, at_most, repeated, through, before, inside, passing}
 use Rattle.doc_rules.specs.Parsers.{spacing, some_spacing}
-use Rattle.doc_rules.specs.Entities.{Table}
+use Rattle.doc_rules.specs.Rules.{Rules}
 use Rattle.doc_rules.specs.Tags.{tag_name, attribute_name, quoted_by, attribute_value, attribute, open_tag, closing_tag, html_tag, comment}
 use Rattle.doc_rules.specs.Tags.{instruction, declaration, cdata, raw_html}
 use Rattle.doc_rules.specs.Autolinks.{is_scheme_char, scheme, uri, is_local_char, is_domain_char, is_domain_part, domain_part, mail}
@@ -314,61 +314,61 @@ definition_takes text source e = (definition_source_ends text source e).0
 pub definition_ends : (text : Text) (source : DefinitionSource) → definition_source text ≡ Some source → IsRest source.rest text
 definition_ends text source e = (definition_source_ends text source e).1
 
-abbrev one_more : ℕ → Table → Text → Option DefinitionSource → List Definition × Text
-one_more n table text found =
+abbrev one_more : ℕ → Rules → Text → Option DefinitionSource → List Definition × Text
+one_more n rules text found =
     elim found [
       | None ↦ ([], text)
-      | Some source ↦ (definition_of table source ∷ (definitions_within n table source.rest).0, (definitions_within n table source.rest).1)
+      | Some source ↦ (definition_of rules source ∷ (definitions_within n rules source.rest).0, (definitions_within n rules source.rest).1)
     ]
 
-none_within : (n : ℕ) (table : Table) (text : Text) → length text ≤ 0 → definitions_within n table text ≡ ([], text)
+none_within : (n : ℕ) (rules : Rules) (text : Text) → length text ≤ 0 → definitions_within n rules text ≡ ([], text)
 unfolding definitions_within
-none_within zero table text h = refl
-none_within (suc n) table text h = at (definition_source text) refl
+none_within zero rules text h = refl
+none_within (suc n) rules text h = at (definition_source text) refl
   where
-    at : (found : Option DefinitionSource) → definition_source text ≡ found → one_more n table text found ≡ ([], text)
+    at : (found : Option DefinitionSource) → definition_source text ≡ found → one_more n rules text found ≡ ([], text)
     at None e = refl
     at (Some source) e = let shorter : length source.rest < length text = definition_takes text source e in absurd (omega arith)
 
 -- more room than characters doesn't matter
-pub definitions_enough : (n m : ℕ) (table : Table) (text : Text) → length text ≤ n → length text ≤ m
-    → definitions_within n table text ≡ definitions_within m table text
+pub definitions_enough : (n m : ℕ) (rules : Rules) (text : Text) → length text ≤ n → length text ≤ m
+    → definitions_within n rules text ≡ definitions_within m rules text
 unfolding definitions_within
-definitions_enough zero m table text f g = sym (none_within m table text f)
-definitions_enough (suc n) zero table text f g = none_within (suc n) table text g
-definitions_enough (suc n) (suc m) table text f g = at (λ rest a b. definitions_enough n m table rest a b) (definition_source text) refl
+definitions_enough zero m rules text f g = sym (none_within m rules text f)
+definitions_enough (suc n) zero rules text f g = none_within (suc n) rules text g
+definitions_enough (suc n) (suc m) rules text f g = at (λ rest a b. definitions_enough n m rules rest a b) (definition_source text) refl
   where
-    at : ((rest : Text) → length rest ≤ n → length rest ≤ m → definitions_within n table rest ≡ definitions_within m table rest) →
-        (found : Option DefinitionSource) → definition_source text ≡ found → one_more n table text found ≡ one_more m table text found
+    at : ((rest : Text) → length rest ≤ n → length rest ≤ m → definitions_within n rules rest ≡ definitions_within m rules rest) →
+        (found : Option DefinitionSource) → definition_source text ≡ found → one_more n rules text found ≡ one_more m rules text found
     at go None e = refl
     at go (Some source) e =
         let shorter : length source.rest < length text = definition_takes text source e in
-        ap (λ (more : List Definition × Text). (definition_of table source ∷ more.0, more.1)) (go source.rest (omega arith) (omega arith))
+        ap (λ (more : List Definition × Text). (definition_of rules source ∷ more.0, more.1)) (go source.rest (omega arith) (omega arith))
 
-abbrev first_and_more : Table → Text → Option DefinitionSource → List Definition × Text
-first_and_more table text found =
+abbrev first_and_more : Rules → Text → Option DefinitionSource → List Definition × Text
+first_and_more rules text found =
     elim found [
       | None ↦ ([], text)
-      | Some source ↦ (definition_of table source ∷ (definitions_of table source.rest).0, (definitions_of table source.rest).1)
+      | Some source ↦ (definition_of rules source ∷ (definitions_of rules source.rest).0, (definitions_of rules source.rest).1)
     ]
 
 -- the definitions at the front of a text: none, or one and those behind it
-pub definitions_step : (table : Table) (text : Text) → definitions_of table text ≡ first_and_more table text (definition_source text)
+pub definitions_step : (rules : Rules) (text : Text) → definitions_of rules text ≡ first_and_more rules text (definition_source text)
 unfolding definitions_of definitions_within
-definitions_step table [] = at (definition_source []) refl
+definitions_step rules [] = at (definition_source []) refl
   where
-    at : (found : Option DefinitionSource) → definition_source [] ≡ found → ([], []) ≡ first_and_more table [] found
+    at : (found : Option DefinitionSource) → definition_source [] ≡ found → ([], []) ≡ first_and_more rules [] found
     at None e = refl
     at (Some source) e = let shorter : length source.rest < 0 = definition_takes [] source e in absurd (omega arith)
-definitions_step table (c ∷ text) = at (definition_source (c ∷ text)) refl
+definitions_step rules (c ∷ text) = at (definition_source (c ∷ text)) refl
   where
     at : (found : Option DefinitionSource) → definition_source (c ∷ text) ≡ found
-        → one_more (length text) table (c ∷ text) found ≡ first_and_more table (c ∷ text) found
+        → one_more (length text) rules (c ∷ text) found ≡ first_and_more rules (c ∷ text) found
     at None e = refl
     at (Some source) e =
         let shorter : length source.rest < length (c ∷ text) = definition_takes (c ∷ text) source e in
-        ap (λ (more : List Definition × Text). (definition_of table source ∷ more.0, more.1))
-        (definitions_enough (length text) (length source.rest) table source.rest (omega arith) (omega arith))
+        ap (λ (more : List Definition × Text). (definition_of rules source ∷ more.0, more.1))
+        (definitions_enough (length text) (length source.rest) rules source.rest (omega arith) (omega arith))
 
 -- ---- autolinks (6.5)
 

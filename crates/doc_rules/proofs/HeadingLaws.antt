@@ -3,16 +3,17 @@ use Rattle.std.proofs.Common.{◌≡◌, ℕ, suc, Bool, true, false, List, [], 
 use Rattle.std.specs.Prelude.{codes}
 use Rattle.std.proofs.lemmas.List.{length-map, length-append, drop-drop}
 use Rattle.doc_rules.specs.Characters.{Text}
-use Rattle.doc_rules.specs.Entities.{Table}
+use Rattle.doc_rules.specs.Rules.{Rules}
 use Rattle.doc_rules.specs.Definitions.{Definition}
 use Rattle.doc_rules.specs.Reading.{inlines_of}
 use Rattle.doc_rules.specs.Forests.{none, ◌▹◌, node}
-use Rattle.doc_rules.specs.Blocks.{Leaf, Paragraph, Heading, IndentedCode, FencedCode, HtmlBlock, ThematicBreak, Container, BlockQuote}
+use Rattle.doc_rules.specs.Blocks.{Leaf, Paragraph, Heading, IndentedCode, FencedCode, HtmlBlock, ThematicBreak, TableBlock, Task}
+use Rattle.doc_rules.specs.Blocks.{Container, BlockQuote}
 use Rattle.doc_rules.specs.Blocks.{ListBlock, ListItem, Document}
 use Rattle.doc_rules.specs.PlainTexts.{leaf_headings, headings_in, headings_of}
 use Rattle.doc_rules.specs.Anchors.{free_anchor, anchor_name, anchors_behind}
 use Rattle.doc_rules.specs.Html.{Writing, Output, write, write_text, new_line, is_fresh, paragraph_html, heading_html, code_html, leaf_html}
-use Rattle.doc_rules.specs.Html.{inlines_html, is_tight_inside, container_start, container_end, blocks_html}
+use Rattle.doc_rules.specs.Html.{characters, task_box, inlines_html, is_tight_inside, container_start, container_end, blocks_html}
 use Rattle.doc_rules.specs.Pages.{page_headings, document_anchors, document_page}
 use Rattle.doc_rules.specs.Laws.{AnchorsAreAsMany, HeadingsTakeAnchors, HeadingsHaveAnchors}
 
@@ -39,17 +40,17 @@ listed_anchors [] (anchor ∷ anchors) e = absurd (omega arith)
 listed_anchors (heading ∷ more) [] e = absurd (omega arith)
 listed_anchors (heading ∷ more) (anchor ∷ anchors) e = ap (λ rest. anchor ∷ rest) (listed_anchors more anchors (omega arith))
 
-as_many : (table : Table) (document : Document) → length (document_anchors table document) ≡ length (headings_of table document)
+as_many : (rules : Rules) (document : Document) → length (document_anchors rules document) ≡ length (headings_of rules document)
 unfolding document_anchors
-as_many table document =
-    anchors_are_as_many (map (λ heading. heading.1) (headings_of table document))
-    ∙ length-map (headings_of table document) (λ heading. heading.1)
+as_many rules document =
+    anchors_are_as_many (map (λ heading. heading.1) (headings_of rules document))
+    ∙ length-map (headings_of rules document) (λ heading. heading.1)
 
 pub headings_have_anchors : HeadingsHaveAnchors
 unfolding document_page
-headings_have_anchors table document = (
-  listed_texts (headings_of table document) (document_anchors table document) (as_many table document),
-  listed_anchors (headings_of table document) (document_anchors table document) (as_many table document),
+headings_have_anchors rules document = (
+  listed_texts (headings_of rules document) (document_anchors rules document) (as_many rules document),
+  listed_anchors (headings_of rules document) (document_anchors rules document) (as_many rules document),
 )
 
 -- ---- writing takes the anchors
@@ -70,15 +71,18 @@ unfolding paragraph_html write
 paragraph_keeps true inside w = refl
 paragraph_keeps false inside w = new_line_keeps w
 
-leaf_takes : (table : Table) (refs : List Definition) (tight : Bool) (leaf : Leaf) (w : Writing) →
-    (leaf_html table refs tight leaf w).anchors ≡ drop (length (leaf_headings table refs leaf)) w.anchors
+leaf_takes : (rules : Rules) (refs : List Definition) (tight : Bool) (leaf : Leaf) (w : Writing) →
+    (leaf_html rules refs tight leaf w).anchors ≡ drop (length (leaf_headings rules refs leaf)) w.anchors
 unfolding leaf_html leaf_headings heading_html code_html write
-leaf_takes table refs tight (Paragraph text) w = paragraph_keeps tight (inlines_html 0 (inlines_of table refs text)) w
-leaf_takes table refs tight (Heading level text) w = ap (drop 1) (new_line_keeps w)
-leaf_takes table refs tight (IndentedCode text) w = new_line_keeps w
-leaf_takes table refs tight (FencedCode info text) w = new_line_keeps w
-leaf_takes table refs tight (HtmlBlock text) w = new_line_keeps (write_text text (new_line w)) ∙ new_line_keeps w
-leaf_takes table refs tight ThematicBreak w = new_line_keeps w
+leaf_takes rules refs tight (Paragraph text) w = paragraph_keeps tight (inlines_html 0 (inlines_of rules refs text)) w
+leaf_takes rules refs tight (Heading level text) w = ap (drop 1) (new_line_keeps w)
+leaf_takes rules refs tight (IndentedCode text) w = new_line_keeps w
+leaf_takes rules refs tight (FencedCode info text) w = new_line_keeps w
+leaf_takes rules refs tight (HtmlBlock text) w = new_line_keeps (write_text text (new_line w)) ∙ new_line_keeps w
+leaf_takes rules refs tight ThematicBreak w = new_line_keeps w
+leaf_takes rules refs tight (TableBlock table) w = new_line_keeps w
+leaf_takes rules refs tight (Task done text) w = paragraph_keeps tight
+    (characters (task_box done) ++ inlines_html 0 (inlines_of rules refs text)) w
 
 start_keeps : (container : Container) (w : Writing) → (container_start container w).anchors ≡ w.anchors
 unfolding container_start write
@@ -102,17 +106,17 @@ both firsts seconds anchors between after e f =
 
 pub headings_take_anchors : HeadingsTakeAnchors
 unfolding blocks_html headings_in
-headings_take_anchors table refs tight none w = refl
-headings_take_anchors table refs tight (before ▹ leaf) w =
-    let first : Writing = blocks_html table refs tight before w in
-    both (headings_in table refs before) (leaf_headings table refs leaf) w.anchors first.anchors
-    (leaf_html table refs tight leaf first).anchors
-    (headings_take_anchors table refs tight before w) (leaf_takes table refs tight leaf first)
-headings_take_anchors table refs tight (node before container inside) w =
-    let first : Writing = blocks_html table refs tight before w in
+headings_take_anchors rules refs tight none w = refl
+headings_take_anchors rules refs tight (before ▹ leaf) w =
+    let first : Writing = blocks_html rules refs tight before w in
+    both (headings_in rules refs before) (leaf_headings rules refs leaf) w.anchors first.anchors
+    (leaf_html rules refs tight leaf first).anchors
+    (headings_take_anchors rules refs tight before w) (leaf_takes rules refs tight leaf first)
+headings_take_anchors rules refs tight (node before container inside) w =
+    let first : Writing = blocks_html rules refs tight before w in
     let start : Writing = container_start container first in
-    let second : Writing = blocks_html table refs (is_tight_inside tight container) inside start in
-    both (headings_in table refs before) (headings_in table refs inside) w.anchors first.anchors (container_end container second).anchors
-    (headings_take_anchors table refs tight before w)
-    (end_keeps container second ∙ (headings_take_anchors table refs (is_tight_inside tight container) inside start
-    ∙ ap (drop (length (headings_in table refs inside))) (start_keeps container first)))
+    let second : Writing = blocks_html rules refs (is_tight_inside tight container) inside start in
+    both (headings_in rules refs before) (headings_in rules refs inside) w.anchors first.anchors (container_end container second).anchors
+    (headings_take_anchors rules refs tight before w)
+    (end_keeps container second ∙ (headings_take_anchors rules refs (is_tight_inside tight container) inside start
+    ∙ ap (drop (length (headings_in rules refs inside))) (start_keeps container first)))

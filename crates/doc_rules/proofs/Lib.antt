@@ -13,6 +13,8 @@ mod LinkExamples
 mod FrontExamples
 mod AnchorExamples
 mod PageExamples
+mod TableExamples
+mod ExtensionExamples
 pub mod LineLaws
 pub mod PageLineLaws
 pub mod ColumnLaws

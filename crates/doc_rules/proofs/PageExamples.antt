@@ -5,7 +5,7 @@ use Rattle.std.specs.List.{concat}
 use Rattle.doc_rules.proofs.Computing.{html_words, page_words}
 use Rattle.doc_rules.proofs.Shows.{◌gives◌}
 use Rattle.doc_rules.specs.Characters.{Text}
-use Rattle.doc_rules.specs.Entities.{built_in}
+use Rattle.doc_rules.specs.Rules.{built_in_rules}
 use Rattle.doc_rules.specs.Forests.{none, ◌▹◌}
 use Rattle.doc_rules.specs.Blocks.{Paragraph, document_of}
 use Rattle.doc_rules.specs.Html.{html_of, plain_linker, rendered_plain}
@@ -13,7 +13,7 @@ use Rattle.doc_rules.specs.Pages.{page_of, HtmlPiece, LinkPiece, rendered_of}
 use Rattle.doc_page_parts.specs.declared.rendered.Piece.TheVariants.{Html, Link}
 
 links_headings_and_texts :
-    page_of built_in (codes "# A *b*\n\n[c](d \"e\") <http://f>\n\n## A b\n\n- `x`\n\n~~~ w\ny\n~~~\n")
+    page_of built_in_rules (codes "# A *b*\n\n[c](d \"e\") <http://f>\n\n## A b\n\n- `x`\n\n~~~ w\ny\n~~~\n")
     ≡ record {
       pieces =
           HtmlPiece (codes "<h1 id=\"a-b\">A <em>b</em></h1>\n<p>")
@@ -32,20 +32,20 @@ links_headings_and_texts :
 unfolding page_words
 links_headings_and_texts = refl
 
-empty_page : page_of built_in [] ≡ record { pieces = []; headings = []; texts = [] }
+empty_page : page_of built_in_rules [] ≡ record { pieces = []; headings = []; texts = [] }
 unfolding page_words
 empty_page = refl
 
 -- a link in an image's text is no link
 link_in_an_image :
-    page_of built_in (codes "![a [b](c)](d)\n")
+    page_of built_in_rules (codes "![a [b](c)](d)\n")
     ≡ record { pieces = HtmlPiece (codes "<p><img src=\"d\" alt=\"a b\" /></p>\n") ∷ []; headings = []; texts = codes "a b" ∷ [] }
 unfolding page_words
 link_in_an_image = refl
 
 -- in a tight list; an empty title is there, none is not
 links_in_a_list :
-    page_of built_in (codes "- [a](b \"\")[c](d)\n")
+    page_of built_in_rules (codes "- [a](b \"\")[c](d)\n")
     ≡ record {
       pieces =
           HtmlPiece (codes "<ul>\n<li>")
@@ -62,7 +62,7 @@ links_in_a_list = refl
 
 -- an autolink in a link is a link of its own; raw HTML has no text, a break is a space, code keeps its text
 texts_of_blocks :
-    page_of built_in (codes "a<b>\nc `d  e`\n***\n> [x <uu:v> y](z)\n\n    f  \n")
+    page_of built_in_rules (codes "a<b>\nc `d  e`\n***\n> [x <uu:v> y](z)\n\n    f  \n")
     ≡ record {
       pieces =
           HtmlPiece (codes "<p>a<b>\nc <code>d  e</code></p>\n<hr />\n<blockquote>\n<p>")
@@ -79,7 +79,7 @@ texts_of_blocks = refl
 
 -- a soft break in a heading is a space, in its anchor '-'
 heading_of_two_lines :
-    page_of built_in (codes "a\nB!\n===\n")
+    page_of built_in_rules (codes "a\nB!\n===\n")
     ≡ record {
       pieces = HtmlPiece (codes "<h1 id=\"a-b\">a\nB!</h1>\n") ∷ [];
       headings = record { level = 1; anchor = codes "a-b"; text = codes "a B!" } ∷ [];
@@ -90,7 +90,7 @@ heading_of_two_lines = refl
 
 -- bytes: 'ä' is C3 A4, 'ü' is C3 BC
 page_in_bytes :
-    rendered_of built_in (codes "# ä\n\nä [b](ü)\n")
+    rendered_of built_in_rules (codes "# ä\n\nä [b](ü)\n")
     ≡ record {
       pieces =
           Html (codes "<h1 id=\"" ++ (0xC3 ∷ 0xA4 ∷ codes "\">" ++ (0xC3 ∷ 0xA4 ∷ codes "</h1>\n<p>" ++ (0xC3 ∷ 0xA4 ∷ codes " "))))
@@ -142,7 +142,7 @@ labelled : ℕ → Text
 labelled n = codes "[" ++ (times n (codes "x") ++ (codes "]\n\n[" ++ (times n (codes "x") ++ codes "]: /u\n")))
 
 long_label_document :
-    document_of built_in (labelled 999)
+    document_of built_in_rules (labelled 999)
     ≡ record {
       blocks = none ▹ Paragraph (codes "[" ++ (times 999 (codes "x") ++ codes "]"));
       refs = record { label = times 999 (codes "x"); target = record { dest = codes "/u"; title = None } } ∷ [];
@@ -151,7 +151,7 @@ unfolding html_words times labelled
 long_label_document = refl
 
 long_label_html :
-    html_of built_in plain_linker []
+    html_of built_in_rules plain_linker []
     (record {
       blocks = none ▹ Paragraph (codes "[" ++ (times 999 (codes "x") ++ codes "]"));
       refs = record { label = times 999 (codes "x"); target = record { dest = codes "/u"; title = None } } ∷ [];
@@ -162,10 +162,10 @@ long_label_html = refl
 
 long_label : labelled 999 gives (codes "<p><a href=\"/u\">" ++ (times 999 (codes "x") ++ codes "</a></p>\n"))
 unfolding rendered_plain
-long_label = ap (html_of built_in plain_linker []) long_label_document ∙ long_label_html
+long_label = ap (html_of built_in_rules plain_linker []) long_label_document ∙ long_label_html
 
 too_long_label_document :
-    document_of built_in (labelled 1000)
+    document_of built_in_rules (labelled 1000)
     ≡ record {
       blocks = none ▹ Paragraph (codes "[" ++ (times 1000 (codes "x") ++ codes "]")) ▹ Paragraph
           (codes "[" ++ (times 1000 (codes "x") ++ codes "]: /u"));
@@ -175,7 +175,7 @@ unfolding html_words times labelled
 too_long_label_document = refl
 
 too_long_label_html :
-    html_of built_in plain_linker []
+    html_of built_in_rules plain_linker []
     (record {
       blocks = none ▹ Paragraph (codes "[" ++ (times 1000 (codes "x") ++ codes "]")) ▹ Paragraph
           (codes "[" ++ (times 1000 (codes "x") ++ codes "]: /u"));
@@ -188,4 +188,4 @@ too_long_label_html = refl
 too_long_label : labelled 1000 gives (codes "<p>[" ++ (times 1000 (codes "x")
     ++ (codes "]</p>\n<p>[" ++ (times 1000 (codes "x") ++ codes "]: /u</p>\n"))))
 unfolding rendered_plain
-too_long_label = ap (html_of built_in plain_linker []) too_long_label_document ∙ too_long_label_html
+too_long_label = ap (html_of built_in_rules plain_linker []) too_long_label_document ∙ too_long_label_html

@@ -87,7 +87,7 @@ cut_in_bytes (HtmlPiece (c ∷ text) ∷ HtmlPiece other ∷ more) h = absurd h
 
 pub rendered_is_cut : RenderedIsCut
 unfolding encoded page_of document_page
-rendered_is_cut table text =
-    let document : Document = document_of table text in
-    let output : Output = output_of table (document_anchors table document) document in
+rendered_is_cut rules text =
+    let document : Document = document_of rules text in
+    let output : Output = output_of rules (document_anchors rules document) document in
     cut_in_bytes (pieces_of output) (pieces_are_cut output)

@@ -5,13 +5,13 @@ use Rattle.std.specs.List.{AllByRecursion}
 use Rattle.doc_rules.specs.Characters.{Text}
 use Rattle.doc_rules.specs.Lines.{ends_line, onto_first, lines_of, without_ending, secure_char, line_content}
 use Rattle.doc_rules.specs.Columns.{columns_from, width_at, cell_of, Line, cells_of, is_gap, spaces, skip, indent, after_indent}
-use Rattle.doc_rules.specs.Entities.{Table}
+use Rattle.doc_rules.specs.Rules.{Rules}
 use Rattle.doc_rules.specs.ContainerStarts.{behind_quote_marker, quote_start}
 use Rattle.doc_rules.specs.Forests.{none, node}
 use Rattle.doc_rules.specs.Trees.{QuoteLines, Tree, NoParagraph, matched, add_leaf_or_item, add_blocks, lazy_situation, add_line, add_lines}
 use Rattle.doc_rules.specs.Trees.{tree_within}
 use Rattle.doc_rules.specs.Lists.{listed}
-use Rattle.doc_rules.specs.Blocks.{container_of, blocks_of, references_of, tree_document}
+use Rattle.doc_rules.specs.Blocks.{BlockQuote, Blocks, container_of, blocks_of, references_of, with_tasks, tasks_read, tree_document}
 use Rattle.doc_rules.specs.Laws.{has_tab, QuotedTree, QuotedDocument, quote_over}
 use Rattle.doc_rules.proofs.QuoteLines.{marked_line, quoted_has}
 use Rattle.doc_page_parts.proofs.Bools.{or_first, or_second, and_false}
@@ -91,70 +91,82 @@ quote_behind line e = ap Some (skip_none _ ∙ shifted (line_content line) 2 0 (
 
 -- ---- the tree
 
-add_inside : (room : ℕ) (table : Table) (tree : Tree) (line rest : Line) → quote_start line ≡ Some rest →
-    add_line (suc room) table line (node none QuoteLines tree) ≡ node none QuoteLines (add_line room table rest tree)
+add_inside : (room : ℕ) (rules : Rules) (tree : Tree) (line rest : Line) → quote_start line ≡ Some rest →
+    add_line (suc room) rules line (node none QuoteLines tree) ≡ node none QuoteLines (add_line room rules rest tree)
 unfolding add_line matched
-add_inside room table tree line rest e =
+add_inside room rules tree line rest e =
     ap (λ o. elim o [
-      | Some more ↦ node none QuoteLines (add_line (suc room - 1) table more tree)
-      | None ↦ add_blocks (suc room) table
-          (lazy_situation tree) line (node none QuoteLines tree)
+      | Some more ↦ node none QuoteLines (add_line (suc room - 1) rules more tree)
+      | None ↦ add_blocks (suc room) rules
+          (lazy_situation rules tree) line (node none QuoteLines tree)
     ]) e
-    ∙ ap (λ n. node none QuoteLines (add_line n table rest tree)) (sub-one (suc room))
+    ∙ ap (λ n. node none QuoteLines (add_line n rules rest tree)) (sub-one (suc room))
 
-add_first : (room : ℕ) (table : Table) (line rest : Line) → quote_start line ≡ Some rest
-    → add_line (suc room) table line none ≡ node none QuoteLines (add_line room table rest none)
+add_first : (room : ℕ) (rules : Rules) (line rest : Line) → quote_start line ≡ Some rest
+    → add_line (suc room) rules line none ≡ node none QuoteLines (add_line room rules rest none)
 unfolding add_line add_blocks
-add_first room table line rest e = ap (λ o. elim o [
-  | Some more ↦ node none QuoteLines (add_blocks room table NoParagraph more none)
+add_first room rules line rest e = ap (λ o. elim o [
+  | Some more ↦ node none QuoteLines (add_blocks room rules NoParagraph more none)
   | None
-      ↦ add_leaf_or_item table NoParagraph line none (λ first. add_blocks room table NoParagraph first none)
+      ↦ add_leaf_or_item rules NoParagraph line none (λ first. add_blocks room rules NoParagraph first none)
 ]) e
 
-lines_inside : (room : ℕ) (table : Table) (lines : List Text) (tree : Tree) → NoTabs lines →
-    add_lines (suc room) table (map marked_line lines) (node none QuoteLines tree) ≡ node none QuoteLines (add_lines room table lines tree)
+lines_inside : (room : ℕ) (rules : Rules) (lines : List Text) (tree : Tree) → NoTabs lines →
+    add_lines (suc room) rules (map marked_line lines) (node none QuoteLines tree) ≡ node none QuoteLines (add_lines room rules lines tree)
 unfolding add_lines
-lines_inside room table [] tree h = refl
-lines_inside room table (line ∷ more) tree h =
-    ap (add_lines (suc room) table (map marked_line more)) (add_inside room table tree (cells_of (line_content (marked_line line)))
+lines_inside room rules [] tree h = refl
+lines_inside room rules (line ∷ more) tree h =
+    ap (add_lines (suc room) rules (map marked_line more)) (add_inside room rules tree (cells_of (line_content (marked_line line)))
     (cells_of (line_content line)) (quote_behind line h.0))
-    ∙ lines_inside room table more (add_line room table (cells_of (line_content line)) tree) h.1
+    ∙ lines_inside room rules more (add_line room rules (cells_of (line_content line)) tree) h.1
 
-all_lines : (room : ℕ) (table : Table) (line : Text) (more : List Text) → NoTabs (line ∷ more) →
-    add_lines (suc room) table (map marked_line (line ∷ more)) none ≡ node none QuoteLines (add_lines room table (line ∷ more) none)
+all_lines : (room : ℕ) (rules : Rules) (line : Text) (more : List Text) → NoTabs (line ∷ more) →
+    add_lines (suc room) rules (map marked_line (line ∷ more)) none ≡ node none QuoteLines (add_lines room rules (line ∷ more) none)
 unfolding add_lines
-all_lines room table line more h =
-    ap (add_lines (suc room) table (map marked_line more)) (add_first room table (cells_of (line_content (marked_line line)))
+all_lines room rules line more h =
+    ap (add_lines (suc room) rules (map marked_line more)) (add_first room rules (cells_of (line_content (marked_line line)))
     (cells_of (line_content line)) (quote_behind line h.0))
-    ∙ lines_inside room table more (add_line room table (cells_of (line_content line)) none) h.1
+    ∙ lines_inside room rules more (add_line room rules (cells_of (line_content line)) none) h.1
 
-abbrev Holds : ℕ → Table → List Text → Type 0
-Holds room table lines = add_lines (suc room) table (map marked_line lines) none ≡ node none QuoteLines (add_lines room table lines none)
+abbrev Holds : ℕ → Rules → List Text → Type 0
+Holds room rules lines = add_lines (suc room) rules (map marked_line lines) none ≡ node none QuoteLines (add_lines room rules lines none)
 
-onto_lines : (room : ℕ) (table : Table) (c : ℕ) (lines : List Text) → NoTabs (onto_first c lines) → Holds room table (onto_first c lines)
+onto_lines : (room : ℕ) (rules : Rules) (c : ℕ) (lines : List Text) → NoTabs (onto_first c lines) → Holds room rules (onto_first c lines)
 unfolding onto_first
-onto_lines room table c [] h = all_lines room table (c ∷ []) [] h
-onto_lines room table c (line ∷ more) h = all_lines room table (c ∷ line) more h
+onto_lines room rules c [] h = all_lines room rules (c ∷ []) [] h
+onto_lines room rules c (line ∷ more) h = all_lines room rules (c ∷ line) more h
 
-some_lines : (room : ℕ) (table : Table) (c : ℕ) (lines : List Text) (b : Bool)
+some_lines : (room : ℕ) (rules : Rules) (c : ℕ) (lines : List Text) (b : Bool)
     → NoTabs (elim b [ true ↦ (c ∷ []) ∷ lines | false ↦ onto_first c lines ]) →
-    Holds room table (elim b [ true ↦ (c ∷ []) ∷ lines | false ↦ onto_first c lines ])
-some_lines room table c lines true h = all_lines room table (c ∷ []) lines h
-some_lines room table c lines false h = onto_lines room table c lines h
+    Holds room rules (elim b [ true ↦ (c ∷ []) ∷ lines | false ↦ onto_first c lines ])
+some_lines room rules c lines true h = all_lines room rules (c ∷ []) lines h
+some_lines room rules c lines false h = onto_lines room rules c lines h
 
-text_lines : (room : ℕ) (table : Table) (c : ℕ) (rest : Text) → NoTabs (lines_of (c ∷ rest)) → Holds room table (lines_of (c ∷ rest))
+text_lines : (room : ℕ) (rules : Rules) (c : ℕ) (rest : Text) → NoTabs (lines_of (c ∷ rest)) → Holds room rules (lines_of (c ∷ rest))
 unfolding lines_of
-text_lines room table c rest h = some_lines room table c (lines_of rest) (ends_line c rest) h
+text_lines room rules c rest h = some_lines room rules c (lines_of rest) (ends_line c rest) h
 
 pub quoted_tree : QuotedTree
-quoted_tree room table c rest e =
-    ap (λ lines. add_lines (suc room) table lines none) (quoted_has (c ∷ rest)) ∙ text_lines room table c rest (lines_no_tab (c ∷ rest) e)
+quoted_tree room rules c rest e =
+    ap (λ lines. add_lines (suc room) rules lines none) (quoted_has (c ∷ rest)) ∙ text_lines room rules c rest (lines_no_tab (c ∷ rest) e)
 
-over_quote : (table : Table) (tree : Tree) → tree_document table (listed (node none QuoteLines tree))
-    ≡ quote_over (tree_document table (listed tree))
+tasks_at : (blocks : Blocks) (b : Bool) → elim b [ true ↦ with_tasks (node none BlockQuote blocks) | false ↦ node none BlockQuote blocks ]
+    ≡ node none BlockQuote (elim b [ true ↦ with_tasks blocks | false ↦ blocks ])
+unfolding with_tasks
+tasks_at blocks true = refl
+tasks_at blocks false = refl
+
+tasks_inside : (rules : Rules) (blocks : Blocks) → tasks_read rules (node none BlockQuote blocks)
+    ≡ node none BlockQuote (tasks_read rules blocks)
+unfolding tasks_read
+tasks_inside rules blocks = tasks_at blocks rules.tasks
+
+over_quote : (rules : Rules) (tree : Tree) → tree_document rules (listed (node none QuoteLines tree))
+    ≡ quote_over (tree_document rules (listed tree))
 unfolding tree_document listed blocks_of references_of container_of
-over_quote table tree = refl
+over_quote rules tree = ap (λ (blocks : Blocks). record { blocks = blocks; refs = references_of rules (listed tree) })
+    (tasks_inside rules (blocks_of rules (listed tree)))
 
 pub quoted_document : QuotedDocument
-quoted_document room table c rest e = ap (λ tree. tree_document table (listed tree)) (quoted_tree room table c rest e)
-    ∙ over_quote table (tree_within room table (c ∷ rest))
+quoted_document room rules c rest e = ap (λ tree. tree_document rules (listed tree)) (quoted_tree room rules c rest e)
+    ∙ over_quote rules (tree_within room rules (c ∷ rest))

@@ -2,7 +2,7 @@
 use Rattle.std.specs.Prelude.{ℕ, zero, suc, true, false, bytes_eq, List, [], ◌∷◌, length, Option, Some, None, option_map}
 use Rattle.doc_rules.specs.Characters.{Text, is_space_or_tab}
 use Rattle.doc_rules.specs.Parsers.{Parser, is, many, ◌then◌, maybe, before, inside, line_ending, spacing, some_spacing}
-use Rattle.doc_rules.specs.Entities.{Table}
+use Rattle.doc_rules.specs.Rules.{Rules}
 use Rattle.doc_rules.specs.Destinations.{Target, destination, title, target_of}
 use Rattle.doc_rules.specs.Labels.{label, normal_label}
 
@@ -73,23 +73,23 @@ definition_source text =
     ]
 
 -- what it means
-abbrev pub definition_of : Table → DefinitionSource → Definition
-definition_of table source = record { label = source.label; target = target_of table source.dest source.title }
+abbrev pub definition_of : Rules → DefinitionSource → Definition
+definition_of rules source = record { label = source.label; target = target_of rules source.dest source.title }
 
 -- ---- definitions one after another
 
 -- the definitions at the front of a text, n at most, and the text behind them
-unfoldable pub definitions_within : ℕ → Table → Text → List Definition × Text
-definitions_within zero table text = ([], text)
-definitions_within (suc n) table text =
+unfoldable pub definitions_within : ℕ → Rules → Text → List Definition × Text
+definitions_within zero rules text = ([], text)
+definitions_within (suc n) rules text =
     elim (definition_source text) [
       | None ↦ ([], text)
-      | Some source ↦ (definition_of table source ∷ (definitions_within n table source.rest).0, (definitions_within n table source.rest).1)
+      | Some source ↦ (definition_of rules source ∷ (definitions_within n rules source.rest).0, (definitions_within n rules source.rest).1)
     ]
 
 -- the definitions at the front of a text, and the text behind them; each takes a character at least
-unfoldable pub definitions_of : Table → Text → List Definition × Text
-definitions_of table text = definitions_within (length text) table text
+unfoldable pub definitions_of : Rules → Text → List Definition × Text
+definitions_of rules text = definitions_within (length text) rules text
 
 -- ---- references
 

@@ -3,7 +3,7 @@ use Rattle.std.specs.Prelude.{ℕ, zero, suc, nat_lt, Bool, false, not, ◌||◌
 use Rattle.std.specs.Char.{is_ascii_control, is_ascii_punctuation}
 use Rattle.doc_rules.specs.Characters.{Text, one_of, none_of, is_space_or_tab}
 use Rattle.doc_rules.specs.Parsers.{Parser, one, is, many, ◌then◌, ◌or◌, repeated, passing, begins, line_ending, inside}
-use Rattle.doc_rules.specs.Entities.{Table}
+use Rattle.doc_rules.specs.Rules.{Rules}
 use Rattle.doc_rules.specs.Escapes.{unescape}
 
 -- where a link leads, and its title, where it has one; a title may be empty (this project's choice)
@@ -62,13 +62,13 @@ title = passing (λ front. not (has_blank_line front)) (title_in 34 34 or title_
 -- ---- what they mean
 
 -- a destination as it stands, without '<' and '>', its escapes and references read; nothing else is stripped (this project's choice)
-unfoldable pub destination_value : Table → Text → Text
-destination_value table source = unescape table (elim (is 60 source) [ Some rest ↦ inside source | None ↦ source ])
+unfoldable pub destination_value : Rules → Text → Text
+destination_value rules source = unescape rules (elim (is 60 source) [ Some rest ↦ inside source | None ↦ source ])
 
 -- a title as it stands, without what it stands in, its escapes and references read
-unfoldable pub title_value : Table → Text → Text
-title_value table source = unescape table (inside source)
+unfoldable pub title_value : Rules → Text → Text
+title_value rules source = unescape rules (inside source)
 
 -- the target of a destination and a title as they stand
-abbrev pub target_of : Table → Text → Option Text → Target
-target_of table dest title_source = record { dest = destination_value table dest; title = option_map (title_value table) title_source }
+abbrev pub target_of : Rules → Text → Option Text → Target
+target_of rules dest title_source = record { dest = destination_value rules dest; title = option_map (title_value rules) title_source }

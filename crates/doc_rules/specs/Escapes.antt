@@ -5,6 +5,7 @@ use Rattle.std.specs.Char.{is_ascii_punctuation, is_ascii_digit, is_ascii_hexdig
 use Rattle.doc_rules.specs.Characters.{Text, one_of}
 use Rattle.doc_rules.specs.Parsers.{Parser, one, is, ◌then◌, some, at_most, before, inside}
 use Rattle.doc_rules.specs.Entities.{Table}
+use Rattle.doc_rules.specs.Rules.{Rules}
 
 -- what stands at the front of a text means these characters, and takes so many characters behind its first
 abbrev pub Meaning : Type 0
@@ -38,22 +39,22 @@ find_entity [] name = None
 find_entity (entity ∷ more) name = elim (bytes_eq entity.0 name) [ true ↦ Some entity.1 | false ↦ find_entity more name ]
 
 -- the reference by name at the front of a text; a name in no table is text (2.5)
-unfoldable pub by_name : Table → Text → Option Meaning
-by_name table rest =
+unfoldable pub by_name : Rules → Text → Option Meaning
+by_name rules rest =
     elim (named_reference rest) [
       | None ↦ None
       | Some after ↦ option_map (λ those. (those, length rest - length after))
-          (find_entity table (take (length rest - length after - 1) rest))
+          (find_entity rules.names (take (length rest - length after - 1) rest))
     ]
 
 -- the reference at the front of a text behind its '&'
-unfoldable pub character_reference : Table → Text → Option Meaning
-character_reference table rest =
+unfoldable pub character_reference : Rules → Text → Option Meaning
+character_reference rules rest =
     elim (decimal_reference rest) [
       | Some after ↦ Some (code_point (number 10 (inside (before after rest))), length rest - length after)
       | None ↦ elim (hexadecimal_reference rest) [
         | Some after ↦ Some (code_point (number 16 (drop 1 (inside (before after rest)))), length rest - length after)
-        | None ↦ by_name table rest
+        | None ↦ by_name rules rest
       ]
     ]
 
@@ -67,23 +68,23 @@ backslash_escape (c ∷ rest) = elim (is_ascii_punctuation c) [ true ↦ Some (c
 -- ---- whole texts
 
 -- the escape or the reference that this character begins before this rest
-unfoldable pub escape_or_reference : Table → ℕ → Text → Option Meaning
-escape_or_reference table c rest = elim (c == 92) [
+unfoldable pub escape_or_reference : Rules → ℕ → Text → Option Meaning
+escape_or_reference rules c rest = elim (c == 92) [
   | true ↦ backslash_escape rest
   | false ↦ elim (c == 38)
-      [ true ↦ character_reference table rest | false ↦ None ]
+      [ true ↦ character_reference rules rest | false ↦ None ]
 ]
 
 -- what this character before this rest means: itself, where it begins neither
-unfoldable pub meaning : Table → ℕ → Text → Meaning
-meaning table c rest = elim (escape_or_reference table c rest) [ Some those ↦ those | None ↦ (c ∷ [], 0) ]
+unfoldable pub meaning : Rules → ℕ → Text → Meaning
+meaning rules c rest = elim (escape_or_reference rules c rest) [ Some those ↦ those | None ↦ (c ∷ [], 0) ]
 
 -- a text with its escapes and references read; its first n characters are read already
-unfoldable pub unescape_behind : Table → ℕ → Text → Text
-unescape_behind table n [] = []
-unescape_behind table (suc n) (c ∷ rest) = unescape_behind table n rest
-unescape_behind table zero (c ∷ rest) = (meaning table c rest).0 ++ unescape_behind table (meaning table c rest).1 rest
+unfoldable pub unescape_behind : Rules → ℕ → Text → Text
+unescape_behind rules n [] = []
+unescape_behind rules (suc n) (c ∷ rest) = unescape_behind rules n rest
+unescape_behind rules zero (c ∷ rest) = (meaning rules c rest).0 ++ unescape_behind rules (meaning rules c rest).1 rest
 
 -- a text with its escapes and references read
-unfoldable pub unescape : Table → Text → Text
-unescape table = unescape_behind table 0
+unfoldable pub unescape : Rules → Text → Text
+unescape rules = unescape_behind rules 0

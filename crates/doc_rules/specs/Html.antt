@@ -2,15 +2,20 @@
 use Rattle.std.specs.Prelude.{ℕ, zero, suc, Bool, true, false, ◌==◌, List, [], ◌∷◌, ◌++◌, map, flat_map, decimal, drop, Option, Some, None}
 use Rattle.std.specs.Prelude.{if◌then◌else◌, codes}
 use Rattle.doc_rules.specs.Characters.{Text, is_space_or_tab, strip_front}
-use Rattle.doc_rules.specs.Entities.{Table}
+use Rattle.doc_rules.specs.Rules.{Rules}
 use Rattle.doc_rules.specs.Destinations.{Target}
 use Rattle.doc_rules.specs.Definitions.{Definition}
-use Rattle.doc_rules.specs.Inlines.{Span, Emphasis, Strong, Link, Image, Inline, Literal, Code, Raw, Reference, SoftBreak, HardBreak, Start}
+use Rattle.doc_rules.specs.Inlines.{Span, Emphasis, Strong, Strike, Link, Image, Inline, Literal, Code, Raw, Reference, SoftBreak}
+use Rattle.doc_rules.specs.Inlines.{HardBreak, Start}
 use Rattle.doc_rules.specs.Inlines.{End}
 use Rattle.doc_rules.specs.CodeSpans.{spaced}
 use Rattle.doc_rules.specs.Reading.{inlines_of}
+use Rattle.doc_rules.specs.declared.alignment.Alignment.{Alignment}
+use Rattle.doc_rules.specs.declared.alignment.Alignment.TheVariants.{Default, Left, Center, Right}
+use Rattle.doc_rules.specs.Tables.{TableSource}
 use Rattle.doc_rules.specs.Forests.{none, ◌▹◌, node}
-use Rattle.doc_rules.specs.Blocks.{Leaf, Paragraph, Heading, IndentedCode, FencedCode, HtmlBlock, ThematicBreak, Container, BlockQuote}
+use Rattle.doc_rules.specs.Blocks.{Leaf, Paragraph, Heading, IndentedCode, FencedCode, HtmlBlock, ThematicBreak, TableBlock, Task}
+use Rattle.doc_rules.specs.Blocks.{Container, BlockQuote}
 use Rattle.doc_rules.specs.Blocks.{ListBlock, ListItem, Blocks, Document, document_of}
 use Rattle.doc_rules.specs.Escaping.{html_escape, url_escape}
 use Rattle.doc_rules.specs.PlainTexts.{plain}
@@ -36,6 +41,7 @@ characters = map Character
 unfoldable pub span_start : Span → Output
 span_start Emphasis = characters (codes "<em>")
 span_start Strong = characters (codes "<strong>")
+span_start Strike = characters (codes "<del>")
 span_start (Link target) = LinkTag target ∷ []
 span_start (Image target) = characters (codes "<img src=\"" ++ url_escape target.dest ++ codes "\" alt=\"")
 
@@ -43,6 +49,7 @@ span_start (Image target) = characters (codes "<img src=\"" ++ url_escape target
 unfoldable pub span_end : Span → Text
 span_end Emphasis = codes "</em>"
 span_end Strong = codes "</strong>"
+span_end Strike = codes "</del>"
 span_end (Link target) = codes "</a>"
 span_end (Image target) = codes "\"" ++ title_attribute target.title ++ codes " />"
 
@@ -138,14 +145,69 @@ class_attribute info = language_class (first_word (strip_front is_space_or_tab i
 unfoldable pub code_html : Text → Text → Writing → Writing
 code_html class text = write_text (codes "<pre><code" ++ class ++ codes ">" ++ html_escape text ++ codes "</code></pre>\n")
 
+-- ---- tables (GFM 4.10)
+
+-- the attribute of a cell in a column that says where its texts stand
+unfoldable pub align_attribute : Alignment → Text
+align_attribute Default = []
+align_attribute Left = codes " align=\"left\""
+align_attribute Center = codes " align=\"center\""
+align_attribute Right = codes " align=\"right\""
+
+-- a cell over these inlines: 'th' in the header, 'td' in a row
+unfoldable pub cell_html : Text → Alignment → Output → Output
+cell_html name column inside =
+    characters (codes "<" ++ name ++ align_attribute column ++ codes ">") ++ (inside ++ characters (codes "</" ++ name ++ codes ">\n"))
+
+-- a cell for each of these columns: those that the row doesn't have are empty
+unfoldable pub cells_html : Rules → List Definition → Text → List Alignment → List Text → Output
+cells_html rules refs name [] cells = []
+cells_html rules refs name (column ∷ columns) [] = cell_html name column [] ++ cells_html rules refs name columns []
+cells_html rules refs name (column ∷ columns) (text ∷ more) =
+    cell_html name column (inlines_html 0 (inlines_of rules refs text)) ++ cells_html rules refs name columns more
+
+-- a row of these cells
+unfoldable pub row_html : Rules → List Definition → Text → List Alignment → List Text → Output
+row_html rules refs name columns cells =
+    characters (codes "<tr>\n") ++ (cells_html rules refs name columns cells ++ characters (codes "</tr>\n"))
+
+-- the rows behind the header
+unfoldable pub rows_html : Rules → List Definition → List Alignment → List (List Text) → Output
+rows_html rules refs columns rows = flat_map (row_html rules refs (codes "td") columns) rows
+
+-- all rows behind the header in their tag, which isn't there where they aren't
+unfoldable pub body_html : Rules → List Definition → List Alignment → List (List Text) → Output
+body_html rules refs columns [] = []
+body_html rules refs columns (row ∷ more) =
+    characters (codes "<tbody>\n") ++ (rows_html rules refs columns (row ∷ more) ++ characters (codes "</tbody>\n"))
+
+-- a table
+unfoldable pub table_html : Rules → List Definition → TableSource → Output
+table_html rules refs table =
+    characters (codes "<table>\n<thead>\n")
+    ++ (row_html rules refs (codes "th") table.columns table.header
+    ++ (characters (codes "</thead>\n") ++ (body_html rules refs table.columns table.rows ++ characters (codes "</table>\n"))))
+
+-- ---- tasks (GFM 5.3)
+
+-- the box before the text of a task
+unfoldable pub task_box : Bool → Text
+task_box true = codes "<input type=\"checkbox\" checked=\"\" disabled=\"\" /> "
+task_box false = codes "<input type=\"checkbox\" disabled=\"\" /> "
+
+-- ---- all leaves
+
 -- a leaf behind what was written; directly in an item of a tight list or not
-unfoldable pub leaf_html : Table → List Definition → Bool → Leaf → Writing → Writing
-leaf_html table refs tight (Paragraph text) w = paragraph_html tight (inlines_html 0 (inlines_of table refs text)) w
-leaf_html table refs tight (Heading level text) w = heading_html level (inlines_html 0 (inlines_of table refs text)) (new_line w)
-leaf_html table refs tight (IndentedCode text) w = code_html [] text (new_line w)
-leaf_html table refs tight (FencedCode info text) w = code_html (class_attribute info) text (new_line w)
-leaf_html table refs tight (HtmlBlock text) w = new_line (write_text text (new_line w))
-leaf_html table refs tight ThematicBreak w = write_text (codes "<hr />\n") (new_line w)
+unfoldable pub leaf_html : Rules → List Definition → Bool → Leaf → Writing → Writing
+leaf_html rules refs tight (Paragraph text) w = paragraph_html tight (inlines_html 0 (inlines_of rules refs text)) w
+leaf_html rules refs tight (Heading level text) w = heading_html level (inlines_html 0 (inlines_of rules refs text)) (new_line w)
+leaf_html rules refs tight (IndentedCode text) w = code_html [] text (new_line w)
+leaf_html rules refs tight (FencedCode info text) w = code_html (class_attribute info) text (new_line w)
+leaf_html rules refs tight (HtmlBlock text) w = new_line (write_text text (new_line w))
+leaf_html rules refs tight ThematicBreak w = write_text (codes "<hr />\n") (new_line w)
+leaf_html rules refs tight (TableBlock table) w = write (table_html rules refs table) (new_line w)
+leaf_html rules refs tight (Task done text) w =
+    paragraph_html tight (characters (task_box done) ++ inlines_html 0 (inlines_of rules refs text)) w
 
 -- ---- containers
 
@@ -178,18 +240,18 @@ container_end (ListBlock start tight) w = write_text (list_end start) (new_line 
 container_end ListItem w = write_text (codes "</li>\n") w
 
 -- blocks behind what was written
-unfoldable pub blocks_html : Table → List Definition → Bool → Blocks → Writing → Writing
-blocks_html table refs tight none w = w
-blocks_html table refs tight (before ▹ leaf) w = leaf_html table refs tight leaf (blocks_html table refs tight before w)
-blocks_html table refs tight (node before container inside) w =
-    container_end container (blocks_html table refs (is_tight_inside tight container) inside
-    (container_start container (blocks_html table refs tight before w)))
+unfoldable pub blocks_html : Rules → List Definition → Bool → Blocks → Writing → Writing
+blocks_html rules refs tight none w = w
+blocks_html rules refs tight (before ▹ leaf) w = leaf_html rules refs tight leaf (blocks_html rules refs tight before w)
+blocks_html rules refs tight (node before container inside) w =
+    container_end container (blocks_html rules refs (is_tight_inside tight container) inside
+    (container_start container (blocks_html rules refs tight before w)))
 
 -- ---- documents
 
 -- what is written for a document; where no anchors are given, headings carry none
-unfoldable pub output_of : Table → List Text → Document → Output
-output_of table anchors document = (blocks_html table document.refs false document.blocks
+unfoldable pub output_of : Rules → List Text → Document → Output
+output_of rules anchors document = (blocks_html rules document.refs false document.blocks
     (record { output = []; anchors = anchors })).output
 
 -- how a link is shown: with the text of its href as it is written, or as a link to nothing that its reader sees
@@ -212,13 +274,13 @@ written_text linker (Character c) = c ∷ []
 written_text linker (LinkTag target) = link_tag (linker target.dest) target.title
 
 -- a document as HTML
-unfoldable pub html_of : Table → Linker → List Text → Document → Text
-html_of table linker anchors document = flat_map (written_text linker) (output_of table anchors document)
+unfoldable pub html_of : Rules → Linker → List Text → Document → Text
+html_of rules linker anchors document = flat_map (written_text linker) (output_of rules anchors document)
 
 -- the linker of the specification's examples: each destination as it stands, escaped
 unfoldable pub plain_linker : Linker
 plain_linker dest = Href (url_escape dest)
 
 -- a text as HTML, in the form of the specification's examples
-unfoldable pub rendered_plain : Table → Text → Text
-rendered_plain table text = html_of table plain_linker [] (document_of table text)
+unfoldable pub rendered_plain : Rules → Text → Text
+rendered_plain rules text = html_of rules plain_linker [] (document_of rules text)

@@ -3,12 +3,12 @@ use Rattle.std.specs.Prelude.{ℕ, Bool, List, [], ◌∷◌, ◌++◌, map, rev
 use Rattle.doc_rules.specs.Characters.{Text}
 use Rattle.doc_rules.specs.Destinations.{Target}
 
--- what inlines may stand in (6.2 to 6.4)
+-- what inlines may stand in (6.2 to 6.4; GFM 6.5)
 pub data Span : Type 0 where
-  Emphasis Strong : Span
+  Emphasis Strong Strike : Span
   Link Image : Target → Span
 
--- a run of '*' or '_': its character, how many are left of it, how many it had, and what it may do (6.2)
+-- a run of '*', '_' or '~': its character, how many are left of it, how many it had, and what it may do (6.2)
 pub record Run : Type 0 where
   pub char : ℕ
   pub left : ℕ

@@ -6,7 +6,7 @@ use Rattle.std.specs.List.{concat, AllByRecursion, IsDistinct, list_any}
 use Rattle.doc_rules.specs.Characters.{Text}
 use Rattle.doc_rules.specs.Lines.{lines_of, without_ending}
 use Rattle.doc_rules.specs.Columns.{Column, columns_of}
-use Rattle.doc_rules.specs.Entities.{Table}
+use Rattle.doc_rules.specs.Rules.{Rules}
 use Rattle.doc_rules.specs.Destinations.{Target}
 use Rattle.doc_rules.specs.Definitions.{Definition, find_reference}
 use Rattle.doc_rules.specs.Inlines.{Inline}
@@ -95,14 +95,14 @@ AnchorsAreAsMany = (headings : List Text) → length (anchors_of headings) ≡ l
 
 -- writing blocks takes one anchor for each of their headings
 abbrev pub HeadingsTakeAnchors : Type 0
-HeadingsTakeAnchors = (table : Table) (refs : List Definition) (tight : Bool) (blocks : Blocks) (w : Writing) →
-    (blocks_html table refs tight blocks w).anchors ≡ drop (length (headings_in table refs blocks)) w.anchors
+HeadingsTakeAnchors = (rules : Rules) (refs : List Definition) (tight : Bool) (blocks : Blocks) (w : Writing) →
+    (blocks_html rules refs tight blocks w).anchors ≡ drop (length (headings_in rules refs blocks)) w.anchors
 
 -- a page lists the headings of its document in order, each with its anchor
 abbrev pub HeadingsHaveAnchors : Type 0
-HeadingsHaveAnchors = (table : Table) (document : Document) →
-    (map (λ heading. (heading.level, heading.text)) (document_page table document).headings ≡ headings_of table document)
-    × (map (λ heading. heading.anchor) (document_page table document).headings ≡ document_anchors table document)
+HeadingsHaveAnchors = (rules : Rules) (document : Document) →
+    (map (λ heading. (heading.level, heading.text)) (document_page rules document).headings ≡ headings_of rules document)
+    × (map (λ heading. heading.anchor) (document_page rules document).headings ≡ document_anchors rules document)
 
 -- ---- escaping
 
@@ -127,7 +127,7 @@ PiecesAreCut = (output : Output) → IsCut (pieces_of output)
 
 -- this holds of the page of each text
 abbrev pub RenderedIsCut : Type 0
-RenderedIsCut = (table : Table) (text : Text) → pages.IsCut (rendered_of table text).pieces
+RenderedIsCut = (rules : Rules) (text : Text) → pages.IsCut (rendered_of rules text).pieces
 
 -- the pieces joined are what was written
 abbrev pub PiecesJoin : Type 0
@@ -146,9 +146,9 @@ FillingIsByBytes = (linker : Linker) (shown : List ℕ → PageShown) → ShowsA
 
 -- the page of a text, filled with its links, is the text as HTML in UTF-8
 abbrev pub FilledPagesAreHtml : Type 0
-FilledPagesAreHtml = (table : Table) (text : Text) (linker : Linker) (shown : List ℕ → PageShown) → ShowsAlike shown linker →
-    page_filled shown (rendered_of table text)
-    ≡ encode_utf8_all (html_of table linker (document_anchors table (document_of table text)) (document_of table text))
+FilledPagesAreHtml = (rules : Rules) (text : Text) (linker : Linker) (shown : List ℕ → PageShown) → ShowsAlike shown linker →
+    page_filled shown (rendered_of rules text)
+    ≡ encode_utf8_all (html_of rules linker (document_anchors rules (document_of rules text)) (document_of rules text))
 
 -- ---- quoted texts (5.1)
 
@@ -166,8 +166,8 @@ has_tab = list_any (λ c. c == 9)
 
 -- the tree of a quoted text is one quote over the tree of the text with room for one container fewer
 abbrev pub QuotedTree : Type 0
-QuotedTree = (room : ℕ) (table : Table) (c : ℕ) (rest : Text) → has_tab (c ∷ rest) ≡ false →
-    tree_within (suc room) table (quoted (c ∷ rest)) ≡ node none QuoteLines (tree_within room table (c ∷ rest))
+QuotedTree = (room : ℕ) (rules : Rules) (c : ℕ) (rest : Text) → has_tab (c ∷ rest) ≡ false →
+    tree_within (suc room) rules (quoted (c ∷ rest)) ≡ node none QuoteLines (tree_within room rules (c ∷ rest))
 
 -- the document with one quote over all its blocks
 abbrev pub quote_over : Document → Document
@@ -175,8 +175,8 @@ quote_over document = record document { blocks = node none BlockQuote document.b
 
 -- the same of documents
 abbrev pub QuotedDocument : Type 0
-QuotedDocument = (room : ℕ) (table : Table) (c : ℕ) (rest : Text) → has_tab (c ∷ rest) ≡ false →
-    document_within (suc room) table (quoted (c ∷ rest)) ≡ quote_over (document_within room table (c ∷ rest))
+QuotedDocument = (room : ℕ) (rules : Rules) (c : ℕ) (rest : Text) → has_tab (c ∷ rest) ≡ false →
+    document_within (suc room) rules (quoted (c ∷ rest)) ≡ quote_over (document_within room rules (c ∷ rest))
 
 -- containers stand at most n deep
 abbrev pub IsWithin : ℕ → Tree → Type 0
@@ -187,10 +187,10 @@ IsWithin (suc n) (node before container inside) = IsWithin (suc n) before × IsW
 
 -- room that isn't used doesn't matter
 abbrev pub RoomIsEnough : Type 0
-RoomIsEnough = (room : ℕ) (table : Table) (text : Text) → IsWithin room (tree_within (suc room) table text)
-    → tree_within room table text ≡ tree_within (suc room) table text
+RoomIsEnough = (room : ℕ) (rules : Rules) (text : Text) → IsWithin room (tree_within (suc room) rules text)
+    → tree_within room rules text ≡ tree_within (suc room) rules text
 
 -- a quoted text is one quote over the text, where that opens at most 99 quotes and items at once
 abbrev pub QuotedWithin : Type 0
-QuotedWithin = (table : Table) (c : ℕ) (rest : Text) → has_tab (c ∷ rest) ≡ false → IsWithin 99 (tree_within 100 table (c ∷ rest)) →
-    document_of table (quoted (c ∷ rest)) ≡ quote_over (document_of table (c ∷ rest))
+QuotedWithin = (rules : Rules) (c : ℕ) (rest : Text) → has_tab (c ∷ rest) ≡ false → IsWithin 99 (tree_within 100 rules (c ∷ rest)) →
+    document_of rules (quoted (c ∷ rest)) ≡ quote_over (document_of rules (c ∷ rest))

@@ -3,7 +3,7 @@
 use Rattle.std.specs.Prelude.{ℕ, ◌-◌, true, false, List, [], ◌∷◌, map, length, Option, Some, None, option_map, if◌then◌else◌, codes}
 use Rattle.doc_rules.specs.Characters.{Text}
 use Rattle.doc_rules.specs.Parsers.{is, word, ◌then◌, before, inside, begins, spacing, some_spacing}
-use Rattle.doc_rules.specs.Entities.{Table}
+use Rattle.doc_rules.specs.Rules.{Rules}
 use Rattle.doc_rules.specs.Destinations.{Target, destination, title, target_of}
 use Rattle.doc_rules.specs.Labels.{label, is_label}
 use Rattle.doc_rules.specs.Definitions.{Definition, find_reference}
@@ -21,25 +21,25 @@ unfoldable pub closed : Target → Text → Tail
 closed target text = option_map (λ after. (target, after)) ((spacing then is 41) text)
 
 -- behind a destination: the title that stands at the front of this text
-unfoldable pub title_tail : Table → Text → Text → Tail
-title_tail table dest text = elim (title text) [ None ↦ None | Some after ↦ closed (target_of table dest (Some (before after text))) after ]
+unfoldable pub title_tail : Rules → Text → Text → Tail
+title_tail rules dest text = elim (title text) [ None ↦ None | Some after ↦ closed (target_of rules dest (Some (before after text))) after ]
 
 -- behind a destination: a title set off by spacing, or none
-unfoldable pub destination_tail : Table → Text → Text → Tail
-destination_tail table dest text =
+unfoldable pub destination_tail : Rules → Text → Text → Tail
+destination_tail rules dest text =
     elim (some_spacing text) [
-      | None ↦ closed (target_of table dest None) text
-      | Some start ↦ elim (begins title start) [ true ↦ title_tail table dest start | false ↦ closed (target_of table dest None) text ]
+      | None ↦ closed (target_of rules dest None) text
+      | Some start ↦ elim (begins title start) [ true ↦ title_tail rules dest start | false ↦ closed (target_of rules dest None) text ]
     ]
 
 -- the whole tail; a destination may be missing only where the title is too (this project's choice)
-unfoldable pub inline_tail : Table → Text → Tail
-inline_tail table rest =
+unfoldable pub inline_tail : Rules → Text → Tail
+inline_tail rules rest =
     elim ((is 40 then spacing) rest) [
       | None ↦ None
       | Some start ↦ elim (destination start) [
-        | None ↦ closed (target_of table [] None) start
-        | Some behind ↦ destination_tail table (before behind start) behind
+        | None ↦ closed (target_of rules [] None) start
+        | Some behind ↦ destination_tail rules (before behind start) behind
       ]
     ]
 
@@ -62,8 +62,8 @@ reference_tail refs text rest =
     ]
 
 -- the tail behind this text between brackets: the inline form is tried first
-unfoldable pub link_tail : Table → List Definition → Text → Text → Tail
-link_tail table refs text rest = elim (inline_tail table rest) [ Some found ↦ Some found | None ↦ reference_tail refs text rest ]
+unfoldable pub link_tail : Rules → List Definition → Text → Text → Tail
+link_tail rules refs text rest = elim (inline_tail rules rest) [ Some found ↦ Some found | None ↦ reference_tail refs text rest ]
 
 -- ---- closing brackets
 
@@ -100,13 +100,13 @@ unfoldable pub unlinked : LastBracket → List Inline
 unlinked last = Literal 93 ∷ onto last.since (onto (bracket_text last.bracket) last.before)
 
 -- a ']' with this text behind it
-unfoldable pub close_bracket : Table → List Definition → List Inline → Text → List Inline × ℕ
-close_bracket table refs made rest =
+unfoldable pub close_bracket : Rules → List Definition → List Inline → Text → List Inline × ℕ
+close_bracket rules refs made rest =
     elim (last_bracket [] made) [
       | None ↦ (Literal 93 ∷ made, 0)
       | Some last ↦ elim last.bracket.live [
         | false ↦ (unlinked last, 0)
-        | true ↦ elim (link_tail table refs (before (93 ∷ rest) last.bracket.behind) rest) [
+        | true ↦ elim (link_tail rules refs (before (93 ∷ rest) last.bracket.behind) rest) [
           | None ↦ (unlinked last, 0)
           | Some found ↦ (linked last found.0, length rest - length found.1)
         ]

@@ -1,7 +1,7 @@
 -- Pages (this project's choice): HTML cut at the opening tags of links, headings with anchors, texts; then the same in UTF-8.
 use Rattle.std.specs.Prelude.{ℕ, List, [], ◌∷◌, map, flat_map, encode_utf8_all, option_map}
 use Rattle.doc_rules.specs.Characters.{Text}
-use Rattle.doc_rules.specs.Entities.{Table}
+use Rattle.doc_rules.specs.Rules.{Rules}
 use Rattle.doc_rules.specs.Destinations.{Target}
 use Rattle.doc_rules.specs.Blocks.{Document, document_of}
 use Rattle.doc_rules.specs.PlainTexts.{headings_of, texts_of}
@@ -55,24 +55,24 @@ page_headings (heading ∷ more) (anchor ∷ anchors) = record { level = heading
     anchors
 
 -- the anchors of a document's headings
-unfoldable pub document_anchors : Table → Document → List Text
-document_anchors table document = anchors_of (map (λ heading. heading.1) (headings_of table document))
+unfoldable pub document_anchors : Rules → Document → List Text
+document_anchors rules document = anchors_of (map (λ heading. heading.1) (headings_of rules document))
 
 -- ---- pages
 
 -- the page of a document
-unfoldable pub document_page : Table → Document → Page
-document_page table document =
-    let anchors : List Text = document_anchors table document in
+unfoldable pub document_page : Rules → Document → Page
+document_page rules document =
+    let anchors : List Text = document_anchors rules document in
     record {
-      pieces = pieces_of (output_of table anchors document);
-      headings = page_headings (headings_of table document) anchors;
-      texts = texts_of table document;
+      pieces = pieces_of (output_of rules anchors document);
+      headings = page_headings (headings_of rules document) anchors;
+      texts = texts_of rules document;
     }
 
 -- the page of a text
-unfoldable pub page_of : Table → Text → Page
-page_of table text = document_page table (document_of table text)
+unfoldable pub page_of : Rules → Text → Page
+page_of rules text = document_page rules (document_of rules text)
 
 -- ---- links are shown
 
@@ -102,8 +102,8 @@ encoded page =
     record { pieces = map encoded_piece page.pieces; headings = map encoded_heading page.headings; texts = map encode_utf8_all page.texts }
 
 -- what the renderer makes of a text
-abbrev pub rendered_of : Table → Text → Rendered
-rendered_of table text = encoded (page_of table text)
+abbrev pub rendered_of : Rules → Text → Rendered
+rendered_of rules text = encoded (page_of rules text)
 
 -- how a link is shown, in UTF-8
 unfoldable pub encoded_shown : Shown → PageShown

@@ -1,12 +1,14 @@
 -- Reading a text as inlines (CommonMark 0.31.2, section 6): what was made so far, the nearest first, and the rest of the text.
-use Rattle.std.specs.Prelude.{ℕ, zero, suc, ◌+◌, ◌-◌, nat_le, true, false, ◌==◌, List, [], ◌∷◌, ◌++◌, reverse, length, drop, take, Some}
-use Rattle.std.specs.Prelude.{None, if◌then◌else◌, codes}
+use Rattle.std.specs.Prelude.{ℕ, zero, suc, ◌+◌, ◌-◌, nat_le, Bool, true, false, ◌||◌, ◌==◌, List, [], ◌∷◌, ◌++◌, reverse, length, drop}
+use Rattle.std.specs.Prelude.{take, Some}
+use Rattle.std.specs.Prelude.{None, Option, replicate, if◌then◌else◌, codes}
 use Rattle.std.specs.Char.{is_ascii_punctuation}
 use Rattle.doc_rules.specs.Characters.{Text, first_or}
 use Rattle.doc_rules.specs.Parsers.{is, ◌then◌, before, inside, run_length}
 use Rattle.doc_rules.specs.Tags.{raw_html}
 use Rattle.doc_rules.specs.Autolinks.{uri, mail}
-use Rattle.doc_rules.specs.Entities.{Table}
+use Rattle.doc_rules.specs.BareLinks.{bare_address}
+use Rattle.doc_rules.specs.Rules.{Rules}
 use Rattle.doc_rules.specs.Escapes.{character_reference}
 use Rattle.doc_rules.specs.Definitions.{Definition}
 use Rattle.doc_rules.specs.Inlines.{Span, Link, Inline, Literal, Raw, Reference, SoftBreak, HardBreak, Start, End, Delimiters, Open}
@@ -35,17 +37,23 @@ backslash made c (d ∷ rest) =
     ]
 
 -- a '&' with this text behind it
-unfoldable pub ampersand : Table → List Inline → ℕ → Text → Step
-ampersand table made c rest = elim (character_reference table rest)
+unfoldable pub ampersand : Rules → List Inline → ℕ → Text → Step
+ampersand rules made c rest = elim (character_reference rules rest)
     [ None ↦ as_literal c made | Some found ↦ (Reference (c ∷ take found.1 rest) found.0 ∷ made, found.1) ]
 
 -- ---- delimiter runs (6.2)
 
--- a '*' or '_' with this text behind it, and this character before it; the ends of the text count as white space
+-- a '*', '_' or '~' with this text behind it, and this character before it; the ends of the text count as white space
 unfoldable pub delimiters : ℕ → List Inline → ℕ → Text → Step
 delimiters last made c rest =
     let n : ℕ = run_length c rest in
     (Delimiters (run_between c (suc n) last (first_or 10 (drop n rest))) ∷ made, n)
+
+-- a '~' with this text behind it, and this character before it: one or two are a delimiter run, more are text (GFM 6.5)
+unfoldable pub tildes : ℕ → List Inline → ℕ → Text → Step
+tildes last made c rest =
+    let n : ℕ = run_length c rest in
+    elim (nat_le n 1) [ true ↦ delimiters last made c rest | false ↦ (replicate (suc n) (Literal c) ++ made, n) ]
 
 -- ---- brackets (6.3, 6.4)
 
@@ -90,6 +98,24 @@ left_angle made rest =
       ]
     ]
 
+-- ---- bare links (GFM 6.9)
+
+-- a bracket that may still begin a link or an image stands among what was made
+unfoldable pub has_live_bracket : List Inline → Bool
+has_live_bracket [] = false
+has_live_bracket (Open bracket ∷ more) = bracket.live || has_live_bracket more
+has_live_bracket (inline ∷ more) = has_live_bracket more
+
+-- the bare link with this destination and this source, or else the character itself
+abbrev pub bare_step : List Inline → ℕ → Option (Text × Text) → Step
+bare_step made c None = as_literal c made
+bare_step made c (Some found) = (autolink found.0 found.1 made, length found.1 - 1)
+
+-- a letter between this character and this text, with which a bare link may begin, though not in a bracket
+unfoldable pub bare_link : ℕ → List Inline → ℕ → Text → Step
+bare_link last made c rest =
+    elim (has_live_bracket made) [ true ↦ as_literal c made | false ↦ bare_step made c (bare_address last (c ∷ rest)) ]
+
 -- ---- line breaks (6.7, 6.8)
 
 -- behind n spaces a line ending with the spaces behind it: hard where two spaces or more stand before it. Tabs stay (this project's choice)
@@ -106,12 +132,13 @@ gap made c rest = let n : ℕ = run_length 32 (c ∷ rest) in break_behind n mad
 
 -- what a character may begin
 pub data Kind : Type 0 where
-  Backslash Ampersand Backtick LeftAngle Delimiter LeftBracket Bang RightBracket Gap Other : Kind
+  Backslash Ampersand Backtick LeftAngle Delimiter LeftBracket Bang RightBracket Gap Tilde Address Other : Kind
 
--- the characters that may begin something
+-- the characters that may begin something, some of them by an option
 unfoldable pub kinds : List (ℕ × Kind)
 kinds = (92, Backslash) ∷ (38, Ampersand) ∷ (96, Backtick) ∷ (60, LeftAngle) ∷ (42, Delimiter) ∷ (95, Delimiter) ∷ (91, LeftBracket) ∷
-    (33, Bang) ∷ (93, RightBracket) ∷ (32, Gap) ∷ (10, Gap) ∷ []
+    (33, Bang) ∷ (93, RightBracket) ∷ (32, Gap) ∷ (10, Gap) ∷ (126, Tilde) ∷ (119, Address) ∷ (104, Address) ∷ (72, Address) ∷
+    (102, Address) ∷ (70, Address) ∷ []
 
 -- what this table says of a character
 unfoldable pub kind_in : List (ℕ × Kind) → ℕ → Kind
@@ -119,30 +146,32 @@ kind_in [] c = Other
 kind_in (entry ∷ more) c = elim (c == entry.0) [ true ↦ entry.1 | false ↦ kind_in more c ]
 
 -- one item: it begins with this character, which stands between this one and this text
-unfoldable pub item_of_kind : Kind → Table → List Definition → ℕ → List Inline → ℕ → Text → Step
-item_of_kind Backslash table refs last made c rest = backslash made c rest
-item_of_kind Ampersand table refs last made c rest = ampersand table made c rest
-item_of_kind Backtick table refs last made c rest = code_span made rest
-item_of_kind LeftAngle table refs last made c rest = left_angle made rest
-item_of_kind Delimiter table refs last made c rest = delimiters last made c rest
-item_of_kind LeftBracket table refs last made c rest = left_bracket made rest
-item_of_kind Bang table refs last made c rest = bang made c rest
-item_of_kind RightBracket table refs last made c rest = close_bracket table refs made rest
-item_of_kind Gap table refs last made c rest = gap made c rest
-item_of_kind Other table refs last made c rest = as_literal c made
+unfoldable pub item_of_kind : Kind → Rules → List Definition → ℕ → List Inline → ℕ → Text → Step
+item_of_kind Backslash rules refs last made c rest = backslash made c rest
+item_of_kind Ampersand rules refs last made c rest = ampersand rules made c rest
+item_of_kind Backtick rules refs last made c rest = code_span made rest
+item_of_kind LeftAngle rules refs last made c rest = left_angle made rest
+item_of_kind Delimiter rules refs last made c rest = delimiters last made c rest
+item_of_kind LeftBracket rules refs last made c rest = left_bracket made rest
+item_of_kind Bang rules refs last made c rest = bang made c rest
+item_of_kind RightBracket rules refs last made c rest = close_bracket rules refs made rest
+item_of_kind Gap rules refs last made c rest = gap made c rest
+item_of_kind Tilde rules refs last made c rest = if rules.strikethrough then tildes last made c rest else as_literal c made
+item_of_kind Address rules refs last made c rest = if rules.bare_links then bare_link last made c rest else as_literal c made
+item_of_kind Other rules refs last made c rest = as_literal c made
 
 -- one item, by its first character
-unfoldable pub read_item : Table → List Definition → ℕ → List Inline → ℕ → Text → Step
-read_item table refs last made c rest = item_of_kind (kind_in kinds c) table refs last made c rest
+unfoldable pub read_item : Rules → List Definition → ℕ → List Inline → ℕ → Text → Step
+read_item rules refs last made c rest = item_of_kind (kind_in kinds c) rules refs last made c rest
 
 -- all items of a text behind this character; its first n characters are read already
-unfoldable pub read : Table → List Definition → ℕ → List Inline → ℕ → Text → List Inline
-read table refs last made n [] = made
-read table refs last made (suc n) (c ∷ rest) = read table refs c made n rest
-read table refs last made zero (c ∷ rest) =
-    let step : Step = read_item table refs last made c rest in
-    read table refs c step.0 step.1 rest
+unfoldable pub read : Rules → List Definition → ℕ → List Inline → ℕ → Text → List Inline
+read rules refs last made n [] = made
+read rules refs last made (suc n) (c ∷ rest) = read rules refs c made n rest
+read rules refs last made zero (c ∷ rest) =
+    let step : Step = read_item rules refs last made c rest in
+    read rules refs c step.0 step.1 rest
 
 -- the inlines of a text
-unfoldable pub inlines_of : Table → List Definition → Text → List Inline
-inlines_of table refs text = emphasis_of (reverse (read table refs 10 [] 0 text))
+unfoldable pub inlines_of : Rules → List Definition → Text → List Inline
+inlines_of rules refs text = emphasis_of (reverse (read rules refs 10 [] 0 text))

@@ -2,6 +2,8 @@
 //! `specs/`, one file a subject. Each function here is empty: its contract is a law of the definitions.
 #![tactic(auto)]
 
+pub mod alignment;
+
 ghost use Rattle.doc_rules.specs.Laws.{LinesJoin, PageLinesAgree, ColumnsSpell, ColumnsAreContiguous, TabsReachStops, FirstWins, AnchorsDiffer, AnchorsAreAsMany, HeadingsTakeAnchors, HeadingsHaveAnchors, EscapingIsByBytes, PiecesAreCut, RenderedIsCut, PiecesJoin, FillingIsByBytes, FilledPagesAreHtml, WrappingLeavesFewer, WrappingEnds, QuotedDocument, QuotedTree, RoomIsEnough, QuotedWithin};
 
 /// The lines of a text join to it.

@@ -4,8 +4,8 @@ use Rattle.std.specs.FinMap as map
 use Rattle.doc_store_readers.specs.Readers.{ReaderTable}
 use Rattle.doc_store.specs.declared.store.EditError.{EditError}
 use Rattle.doc_store.specs.declared.store.Put.{Put}
-use Rattle.doc_front.specs.Front.{none}
 use Rattle.doc_hub.specs.Worlds.{World, new_world, plain_settings, world_put}
+use Rattle.doc_server_config.specs.Markdown.{plain}
 use Rattle.doc_server_config.specs.declared.config.SiteConfig.{SiteConfig}
 use Rattle.doc_server_config.specs.declared.page_row.PageRow.{PageRow}
 use Rattle.doc_server_config.specs.declared.page_row.Source.TheVariants.{Text}
@@ -28,7 +28,7 @@ demo_config = record {
   keep_alive = true;
   cache = 4;
   entities = None;
-  front = none;
+  markdown = plain;
   readers = demo_readers;
   pages = demo_page (codes "a.md") (codes "staff") (codes "Hello\n")
       ∷ demo_page (codes "b.md") (codes "staff") (codes "[c](c.md) [d](d.md)\n")

@@ -1,7 +1,7 @@
 -- Texts as HTML in UTF-8, by their characters (CommonMark 0.31.2).
 use Rattle.std.specs.Prelude.{◌≡◌, ℕ, List, chars, codes, encode_utf8_all, string_bytes, Option}
 use Rattle.std.specs.Io.KnownBytes.{Appends, Keeps}
-use Rattle.doc_rules.specs.Entities.{built_in}
+use Rattle.doc_rules.specs.Rules.{built_in_rules}
 use Rattle.doc_rules.specs.Html.{rendered_plain}
 use Rattle.doc_server_streams.specs.Streams.{AppendsPrefix}
 use Rattle.doc_server_streams.specs.Inputs.{OfText}
@@ -10,7 +10,7 @@ use Rattle.doc_server_streams.specs.declared.fault.Fault.TheVariants as faults
 
 -- the HTML of a text, with the built-in character references
 unfoldable pub rendered : List ℕ → List ℕ
-rendered text = encode_utf8_all (rendered_plain built_in (chars text))
+rendered text = encode_utf8_all (rendered_plain built_in_rules (chars text))
 
 -- The output grows by the HTML of the input.
 abbrev pub Renders : Option (List ℕ) → Option (List ℕ) → Option (List ℕ) → Type 0

@@ -34,7 +34,7 @@ pub fn site_hub<R: Renderer + Drop>(
         keep_alive,
         cache,
         entities: _,
-        front: _,
+        markdown: _,
         readers,
         pages,
         browse,

@@ -8,15 +8,16 @@ use Rattle.doc_page_parts.specs.Paths.{is_path}
 use Rattle.doc_page_parts.specs.Tokens.{is_token}
 use Rattle.doc_store_readers.specs.declared.readers.ReadersError.TheVariants as readers
 use Rattle.doc_store_readers.specs.Groups.{groups_of_names}
-use Rattle.doc_front.specs.declared.rules.FrontMatter.TheVariants.{Skip, Title}
+use Rattle.doc_front.specs.declared.rules.FrontMatter.TheVariants.{Keep, Skip, Title}
 use Rattle.doc_front.specs.Front.{none}
 use Rattle.doc_server_config.specs.declared.config.ConfigError.TheVariants.{BadToml, BadReaders, BadSetting, BadPage}
 use Rattle.doc_server_config.specs.declared.page_row.Source.TheVariants.{Text, File}
 use Rattle.doc_server_config.specs.Configurations.{config_of}
+use Rattle.doc_server_config.specs.Markdown.{no_options, plain}
 
 -- nothing is said: connections are kept, and so are 64 filled pages; there are no readers and no pages
 empty_text : config_of (codes "")
-    ≡ Ok (record { keep_alive = true; cache = 64; entities = None; front = none; readers = map.empty; pages = []; browse = None })
+    ≡ Ok (record { keep_alive = true; cache = 64; entities = None; markdown = plain; readers = map.empty; pages = []; browse = None })
 unfolding toml_on_literals
 empty_text = refl
 
@@ -25,7 +26,7 @@ all_settings : config_of (codes "keep_alive = false\ncache = 4096\nentities = \"
       keep_alive = false;
       cache = 4096;
       entities = Some (codes "e.txt");
-      front = none;
+      markdown = plain;
       readers = map.empty;
       pages = [];
       browse = None;
@@ -38,7 +39,7 @@ pages_in_order : config_of (codes "[[page]]\npath = \"b.md\"\ngroups = [\"ops\"]
       keep_alive = true;
       cache = 64;
       entities = None;
-      front = none;
+      markdown = plain;
       readers = map.empty;
       pages = record { path = codes "b.md"; groups = codes "ops" ∷ []; source = Text (codes "x") }
           ∷ record { path = codes "a.md"; groups = []; source = File (codes "f") } ∷ [];
@@ -53,7 +54,7 @@ fronts :
       keep_alive = true;
       cache = 64;
       entities = None;
-      front = record { skip_bom = true; front_matter = Title };
+      markdown = record { front = record { skip_bom = true; front_matter = Title }; options = no_options };
       readers = map.empty;
       pages = [];
       browse = None;
@@ -63,13 +64,40 @@ fronts :
       keep_alive = true;
       cache = 64;
       entities = None;
-      front = record { skip_bom = false; front_matter = Skip };
+      markdown = record { front = record { skip_bom = false; front_matter = Skip }; options = no_options };
       readers = map.empty;
       pages = [];
       browse = None;
     }))
 unfolding toml_on_literals
 fronts = (refl, refl)
+
+extensions :
+    (config_of (codes "[markdown]\ntables = true\ntasks = true\nbare_links = false\n")
+    ≡ Ok (record {
+      keep_alive = true;
+      cache = 64;
+      entities = None;
+      markdown = record { front = none; options = record { tables = true; strikethrough = false; tasks = true; bare_links = false } };
+      readers = map.empty;
+      pages = [];
+      browse = None;
+    }))
+    × (config_of (codes "[markdown]\nstrikethrough = true\nbare_links = true\nskip_bom = true\n")
+    ≡ Ok (record {
+      keep_alive = true;
+      cache = 64;
+      entities = None;
+      markdown = record {
+        front = record { skip_bom = true; front_matter = Keep };
+        options = record { tables = false; strikethrough = true; tasks = false; bare_links = true };
+      };
+      readers = map.empty;
+      pages = [];
+      browse = None;
+    }))
+unfolding toml_on_literals
+extensions = (refl, refl)
 
 -- no table, another key, and other values
 bad_fronts :
@@ -80,6 +108,15 @@ bad_fronts :
     × (config_of (codes "[markdown]\nskip_bom = \"true\"\n") ≡ Err BadSetting)
 unfolding toml_on_literals
 bad_fronts = (refl, refl, refl, refl, refl)
+
+bad_extensions :
+    (config_of (codes "[markdown]\ntables = 1\n") ≡ Err BadSetting)
+    × (config_of (codes "[markdown]\nstrikethrough = \"true\"\n") ≡ Err BadSetting)
+    × (config_of (codes "[markdown]\ntasks = []\n") ≡ Err BadSetting)
+    × (config_of (codes "[markdown]\nbare_links = 0\n") ≡ Err BadSetting)
+    × (config_of (codes "[markdown]\nTables = true\n") ≡ Err BadSetting)
+unfolding toml_on_literals
+bad_extensions = (refl, refl, refl, refl, refl)
 
 no_toml : config_of (codes "cache = ") ≡ Err BadToml
 unfolding toml_on_literals

@@ -4,5 +4,6 @@ mod ListeningExamples
 mod KeySteps
 mod FolderPageSteps
 mod OverlapSteps
+mod ReadmeSteps
 mod PartSteps
 mod RowSteps

@@ -1,18 +1,21 @@
 -- The definitions on worked examples.
-use Rattle.std.proofs.Common.{◌≡◌, [], ◌∷◌, true, false, codes, refl}
+use Rattle.std.proofs.Common.{◌≡◌, [], ◌∷◌, ◌++◌, true, false, codes, refl}
 use Rattle.std.specs.Prelude.{Some, None, Ok, Err}
+use Rattle.std.specs.Path.{rsplit_once}
 use Rattle.std.specs.Str.{chars}
 use Rattle.toml.proofs.OnLiterals.{toml_on_literals}
-use Rattle.doc_page_parts.specs.declared.path.PathError.TheVariants.{BadPath}
+use Rattle.doc_server_config.specs.declared.reason.Reason.TheVariants.{BadCharacter, Control, ManyParts}
 use Rattle.doc_page_parts.specs.Paths.{is_path}
 use Rattle.doc_store_readers.specs.Groups.{groups_of_names}
-use Rattle.doc_server_config.specs.declared.folder.FolderFault.TheVariants.{OtherKey, BadFile, BadPrefix, BadGroups, BadExcept}
+use Rattle.doc_server_config.specs.declared.folder.FolderFault.TheVariants.{OtherKey, BadFile, BadPrefix, BadGroups, BadExcept, BadNames, BadReadme}
+use Rattle.doc_server_config.specs.declared.folder.FolderFault.TheVariants.{BadOnBad}
 use Rattle.doc_server_config.specs.declared.listening.ListeningError.TheVariants.{BadToml, BadListen, BadConnections, BadIdleSeconds}
 use Rattle.doc_server_config.specs.declared.listening.ListeningError.TheVariants.{BadFolders, BadFolder}
 use Rattle.doc_server_config.specs.Excepted.{is_excepted}
 use Rattle.doc_server_config.specs.FileNames.{path_in_folder}
 use Rattle.doc_server_config.specs.Listenings.{listening_of}
 use Rattle.doc_server_config.specs.Overlaps.{first_overlap}
+use Rattle.doc_server_config.specs.Readmes.{index_move}
 
 -- ---- what is read
 
@@ -26,7 +29,7 @@ other_keys_of_the_document : listening_of (codes "cache = 0\npage = 1\n[listen]\
 unfolding toml_on_literals
 other_keys_of_the_document = refl
 
-all_keys : listening_of (codes "[[folder]]\npath = \"../d\"\nprefix = \"g/h\"\ngroups = [\"b\", \"a\"]\nexcept = [\"x/y\", \".z\"]\n[[folder]]\npath = \"\"\n[listen]\nconnections = 1\nidle_seconds = 86400\n")
+all_keys : listening_of (codes "[[folder]]\npath = \"../d\"\nprefix = \"g/h\"\ngroups = [\"b\", \"a\"]\nexcept = [\"x/y\", \".z\"]\nnames = \"nfc\"\nreadme = true\non_bad = \"skip\"\n[[folder]]\npath = \"\"\n[listen]\nconnections = 1\nidle_seconds = 86400\n")
     ≡ Ok (record {
       bounds = record { connections = 1; idle_seconds = 86400 };
       folders = record {
@@ -34,8 +37,16 @@ all_keys : listening_of (codes "[[folder]]\npath = \"../d\"\nprefix = \"g/h\"\ng
         prefix = codes "g/h";
         groups = codes "a" ∷ codes "b" ∷ [];
         except = codes "x/y" ∷ codes ".z" ∷ [];
+        rules = record { is_nfc = true; readme = true; skips = true };
       }
-          ∷ record { file = []; prefix = []; groups = []; except = [] } ∷ [];
+          ∷ record {
+            file = [];
+            prefix = [];
+            groups = [];
+            except = [];
+            rules = record { is_nfc = false; readme = false; skips = false };
+          }
+          ∷ [];
     })
 unfolding toml_on_literals is_path chars groups_of_names
 all_keys = refl
@@ -103,6 +114,18 @@ an_excepted_folder_has_no_slash_behind_it : listening_of (codes "[[folder]]\npat
 unfolding toml_on_literals groups_of_names
 an_excepted_folder_has_no_slash_behind_it = refl
 
+bad_names : listening_of (codes "[[folder]]\npath = \"d\"\nnames = \"NFC\"\nreadme = 1\n") ≡ Err (BadFolder 1 BadNames)
+unfolding toml_on_literals groups_of_names
+bad_names = refl
+
+bad_readme : listening_of (codes "[[folder]]\npath = \"d\"\nreadme = \"x\"\non_bad = 1\n") ≡ Err (BadFolder 1 BadReadme)
+unfolding toml_on_literals groups_of_names
+bad_readme = refl
+
+bad_on_bad : listening_of (codes "[[folder]]\npath = \"d\"\non_bad = true\n") ≡ Err (BadFolder 1 BadOnBad)
+unfolding toml_on_literals groups_of_names
+bad_on_bad = refl
+
 -- groups are refused before excepted folders
 groups_come_first : listening_of (codes "[[folder]]\npath = \"d\"\ngroups = 1\nexcept = [\"..\"]\n") ≡ Err (BadFolder 1 BadGroups)
 unfolding toml_on_literals groups_of_names
@@ -118,29 +141,60 @@ beside_an_excepted_folder = refl
 
 -- ---- the paths of files
 
-in_a_folder : path_in_folder (codes "g") (codes "a/b.md") ≡ Ok (Some (codes "g/a/b.md"))
+in_a_folder : path_in_folder false (codes "g") (codes "a/b.md") ≡ Ok (Some (codes "g/a/b.md"))
 unfolding is_path chars
 in_a_folder = refl
 
-without_a_prefix : path_in_folder [] (codes "b.md") ≡ Ok (Some (codes "b.md"))
+without_a_prefix : path_in_folder false [] (codes "b.md") ≡ Ok (Some (codes "b.md"))
 unfolding is_path chars
 without_a_prefix = refl
 
-other_ending : path_in_folder [] (codes "a.md.txt") ≡ Ok None
+other_ending : path_in_folder false [] (codes "a.md.txt") ≡ Ok None
 other_ending = refl
 
-upper_case_ending : path_in_folder [] (codes "a.MD") ≡ Ok None
+upper_case_ending : path_in_folder false [] (codes "a.MD") ≡ Ok None
 upper_case_ending = refl
 
-hidden_file : path_in_folder [] (codes "a/.md") ≡ Ok None
+hidden_file : path_in_folder false [] (codes "a/.md") ≡ Ok None
 hidden_file = refl
 
-hidden_folder : path_in_folder [] (codes ".git/a.md") ≡ Ok None
+hidden_folder : path_in_folder false [] (codes ".git/a.md") ≡ Ok None
 hidden_folder = refl
 
-no_path_of_a_page : path_in_folder [] (codes "what?.md") ≡ Err BadPath
+no_path_of_a_page : path_in_folder false [] (codes "what?.md") ≡ Err BadCharacter
 unfolding is_path chars
 no_path_of_a_page = refl
+
+-- the first reason in their order, not in that of the name
+first_reason : path_in_folder false [] (127 ∷ codes "a%.md") ≡ Err BadCharacter
+unfolding is_path chars
+first_reason = refl
+
+control_character : path_in_folder false [] (codes "a" ++ 0xC2 ∷ 0x85 ∷ codes ".md") ≡ Err Control
+unfolding is_path chars
+control_character = refl
+
+many_parts : path_in_folder false (codes "a/b/c/d/e/f/g/h") (codes "i/j/k/l/m/n/o/p/q.md") ≡ Err ManyParts
+unfolding is_path chars
+many_parts = refl
+
+-- ---- READMEs
+
+at_the_front : index_move (codes "README.md") ≡ Some (record { from = codes "README.md"; to = codes "index.md" })
+unfolding is_path chars rsplit_once
+at_the_front = refl
+
+in_a_folder_below : index_move (codes "a/b/README.md") ≡ Some (record { from = codes "a/b/README.md"; to = codes "a/b/index.md" })
+unfolding is_path chars rsplit_once
+in_a_folder_below = refl
+
+in_another_case : index_move (codes "a/Readme.md") ≡ None
+unfolding rsplit_once
+in_another_case = refl
+
+a_longer_name : index_move (codes "a/xREADME.md") ≡ None
+unfolding rsplit_once
+a_longer_name = refl
 
 -- ---- paths that two sources give
 

@@ -1,9 +1,11 @@
 -- The paths of pages that stand in files of a folder. All of this is this project's choice.
 use Rattle.std.specs.Prelude.{ℕ, List, [], ◌∷◌, ◌++◌, length, Bool, true, not, ◌&&◌, ◌==◌, codes, Option, Some, None, Result, Ok, Err}
-use Rattle.std.specs.Prelude.{if◌then◌else◌}
+use Rattle.std.specs.Prelude.{if◌then◌else◌, chars, encode_utf8_all}
 use Rattle.std.specs.List.{list_all, ends_with}
-use Rattle.doc_page_parts.specs.declared.path.PathError.{PathError}
-use Rattle.doc_page_parts.specs.Paths.{is_path, path_of, segments}
+use Rattle.unicode_normalization.specs.Forms.{nfc}
+use Rattle.doc_page_parts.specs.Paths.{is_path, segments}
+use Rattle.doc_server_config.specs.declared.reason.Reason.{Reason}
+use Rattle.doc_server_config.specs.Reasons.{path_reason}
 
 -- a name behind a prefix and a slash, or alone where the prefix is empty
 abbrev pub joined : List ℕ → List ℕ → List ℕ
@@ -26,11 +28,14 @@ is_shown name = list_all is_shown_part (segments name)
 abbrev pub is_page_name : List ℕ → Bool
 is_page_name name = is_shown name && ends_with ◌==◌ name (codes ".md")
 
--- a page that there is, where its path isn't refused
-abbrev pub page_that_is : Result (List ℕ) PathError → Result (Option (List ℕ)) PathError
-page_that_is (Err e) = Err e
-page_that_is (Ok path) = Ok (Some path)
+-- a text as the path of a page, or why it is none
+abbrev pub page_path : List ℕ → Result (Option (List ℕ)) Reason
+page_path text = if is_path text then Ok (Some text) else Err (path_reason text)
+
+-- the name of a file as it stands in a path: in normalization form C (Unicode Standard Annex 15) where that is asked for
+abbrev pub name_in_path : Bool → List ℕ → List ℕ
+name_in_path is_nfc name = if is_nfc then encode_utf8_all (nfc (chars name)) else name
 
 -- the path of the page in the file of this name in a folder; other files are passed over
-abbrev pub path_in_folder : List ℕ → List ℕ → Result (Option (List ℕ)) PathError
-path_in_folder prefix name = if is_page_name name then page_that_is (path_of (joined prefix name)) else Ok None
+abbrev pub path_in_folder : Bool → List ℕ → List ℕ → Result (Option (List ℕ)) Reason
+path_in_folder is_nfc prefix name = if is_page_name name then page_path (joined prefix (name_in_path is_nfc name)) else Ok None

@@ -5,17 +5,21 @@ use Rattle.toml.specs.Data.{Data, Items, no_items, item, Members, get, as_str, a
 use Rattle.doc_store_readers.specs.Readers.{groups_at}
 use Rattle.doc_server_config.specs.declared.folder.Folder.{Folder}
 use Rattle.doc_server_config.specs.declared.folder.FolderFault.{FolderFault}
+use Rattle.doc_server_config.specs.declared.folder_rules.FolderRules.{FolderRules}
 use Rattle.doc_server_config.specs.declared.folder.FolderFault.TheVariants.{OtherKey, BadFile, BadPrefix, BadGroups, BadExcept}
 use Rattle.doc_server_config.specs.declared.listening.ListeningError.{ListeningError}
 use Rattle.doc_server_config.specs.declared.listening.ListeningError.TheVariants.{BadFolder}
 use Rattle.doc_server_config.specs.Excepted.{except_at}
 use Rattle.doc_server_config.specs.FileNames.{is_prefix}
+use Rattle.doc_server_config.specs.FolderRules.{rules_of}
 use Rattle.doc_server_config.specs.Keys.{has_only}
 
--- whether a table has another key than these four
+-- whether a table has another key than these
 abbrev pub has_other_key_in : Option Members → Bool
 has_other_key_in None = false
-has_other_key_in (Some table) = not (has_only (codes "except" ∷ codes "groups" ∷ codes "path" ∷ codes "prefix" ∷ []) table)
+has_other_key_in (Some table) =
+    not (has_only (codes "except" ∷ codes "groups" ∷ codes "names" ∷ codes "on_bad" ∷ codes "path" ∷ codes "prefix" ∷ codes "readme" ∷ [])
+    table)
 
 abbrev pub has_other_key : Data → Bool
 has_other_key row = has_other_key_in (as_table row)
@@ -34,20 +38,22 @@ prefix_at None = Some []
 prefix_at (Some value) = option_and_then good_prefix (as_str value)
 
 -- a folder of these parts, or its first fault
-abbrev pub folder_with : Option (List ℕ) → Option (List ℕ) → Option (List (List ℕ)) → Option (List (List ℕ)) → Result Folder FolderFault
-folder_with None prefix groups except = Err BadFile
-folder_with (Some file) None groups except = Err BadPrefix
-folder_with (Some file) (Some prefix) None except = Err BadGroups
-folder_with (Some file) (Some prefix) (Some groups) None = Err BadExcept
-folder_with (Some file) (Some prefix) (Some groups) (Some except) =
-    Ok (record { file = file; prefix = prefix; groups = groups; except = except })
+abbrev pub folder_with : Option (List ℕ) → Option (List ℕ) → Option (List (List ℕ)) → Option (List (List ℕ))
+    → Result FolderRules FolderFault → Result Folder FolderFault
+folder_with None prefix groups except rules = Err BadFile
+folder_with (Some file) None groups except rules = Err BadPrefix
+folder_with (Some file) (Some prefix) None except rules = Err BadGroups
+folder_with (Some file) (Some prefix) (Some groups) None rules = Err BadExcept
+folder_with (Some file) (Some prefix) (Some groups) (Some except) (Err fault) = Err fault
+folder_with (Some file) (Some prefix) (Some groups) (Some except) (Ok rules) =
+    Ok (record { file = file; prefix = prefix; groups = groups; except = except; rules = rules })
 
 -- the folder that a table is, or its first fault
 abbrev pub folder_of : Data → Result Folder FolderFault
 folder_of row =
     if has_other_key row then Err OtherKey
     else folder_with (file_at (get (codes "path") row)) (prefix_at (get (codes "prefix") row)) (groups_at (get (codes "groups") row))
-    (except_at (get (codes "except") row))
+    (except_at (get (codes "except") row)) (rules_of row)
 
 -- the folders found so far, then those of more tables, the first of which has the number n
 abbrev pub folders_from : List Folder → ℕ → Items → Result (List Folder) ListeningError

@@ -7,6 +7,10 @@ pub mod BoundSteps
 pub mod Excepted
 pub mod FileNames
 pub mod Folders
+pub mod FolderRules
+pub mod Readmes
+pub mod Reasons
+pub mod BadFiles
 pub mod Keys
 pub mod Listenings
 pub mod Overlaps

@@ -44,13 +44,15 @@ fn has_length(text: &str, most: usize) -> bool
     !text.is_empty() && text.len() <= most
 }
 
-fn has_no_controls(text: &str) -> bool
+/// Whether no character of a text is a control character.
+pub(crate) fn has_no_controls(text: &str) -> bool
     ensures { result ≡ list_all (λ c. not (is_control c)) (chars text.now) }
 {
     text.chars().all(|c| !is_control(c))
 }
 
-fn is_control(c: char) -> bool
+/// Whether a character is a control character.
+pub(crate) fn is_control(c: char) -> bool
     ensures { result ≡ is_control c }
 {
     c < ' ' || ('\u{7f}'..='\u{9f}').contains(&c)

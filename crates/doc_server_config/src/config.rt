@@ -7,9 +7,9 @@ ghost use Rattle.doc_store_readers.specs.Readers.{ReaderTable};
 ghost use Rattle.doc_server_config.specs.Configurations.{config_of, config_of_document, config_with};
 ghost use Rattle.doc_server_config.specs.ConfigurationSteps.{config_beside};
 
+use crate::markdown::Markdown;
 use crate::page_row::{PageRow, pages_of};
 use crate::settings::{Settings, settings_in};
-use doc_front::rules::FrontRules;
 use doc_page_parts::failure::Memory;
 use doc_page_parts::heap::Heap;
 use doc_page_parts::list::List;
@@ -60,8 +60,8 @@ pub struct SiteConfig {
     pub cache: usize,
     /// The file of a table of entities, as it is to be opened.
     pub entities: Option<Text>,
-    /// What is cut of the fronts of texts.
-    pub front: FrontRules,
+    /// How texts are read.
+    pub markdown: Markdown,
     pub readers: Readers,
     /// The pages in their order. A path may come again: its later page takes the place of the earlier.
     pub pages: List<PageRow>,
@@ -71,11 +71,11 @@ pub struct SiteConfig {
 
 impl SiteConfig {
     /// The configuration that a TOML 1.1 document is: `keep_alive` (a boolean, else true), `cache` (1
-    /// to 4,096, else 64), `entities` (the name of a file), the table `markdown` with none but `skip_bom`
-    /// (a boolean, else false) and `front_matter` (`skip` or `title`), the readers of its array `reader`,
-    /// and its array `page`, each with a `path`, `groups` (an array of names, else none) and either
-    /// `text` or `file`. Other keys are ignored. Refusals come in the order of [`ConfigError`], but that
-    /// `Memory` may be answered before another one is found.
+    /// to 4,096, else 64), `entities` (the name of a file), the table `markdown` with none but `bare_links`,
+    /// `skip_bom`, `strikethrough`, `tables` and `tasks` (booleans, else false) and `front_matter` (`skip`
+    /// or `title`), the readers of its array `reader`, and its array `page`, each with a `path`, `groups`
+    /// (an array of names, else none) and either `text` or `file`. Other keys are ignored. Refusals come in
+    /// the order of [`ConfigError`], but that `Memory` may be answered before another one is found.
     pub fn from_toml(heap: Heap, text: &str) -> Result<SiteConfig, ConfigError>
         ensures read { IfOk result (λ config. config_of text.now ≡ Ok config) }
         ensures refused { IfErr result (λ e. e ≢ ConfigError.Memory → config_of text.now ≡ Err e) }
@@ -105,7 +105,7 @@ impl SiteConfig {
             keep_alive: settings.keep_alive,
             cache: settings.cache,
             entities: settings.entities,
-            front: settings.front,
+            markdown: settings.markdown,
             readers,
             pages,
             browse: None,

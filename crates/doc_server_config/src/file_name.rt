@@ -1,25 +1,52 @@
 //! The paths of pages that stand in files of a folder.
 
-ghost use Rattle.std.specs.Prelude.{◌≡◌, ◌≢◌, Ok, Err, IfOk, IfErr, string_bytes};
-ghost use Rattle.doc_server_config.specs.FileNames.{is_page_name, is_prefix, is_shown, is_shown_part, joined, path_in_folder};
+ghost use Rattle.std.specs.Prelude.{◌≡◌, IfOk, string_bytes};
+ghost use Rattle.doc_server_config.specs.FileNames.{is_page_name, is_prefix, is_shown, is_shown_part, joined, name_in_path, page_path, path_in_folder};
 
+use crate::reason::{Reason, path_reason};
 use doc_page_parts::failure::Memory;
 use doc_page_parts::heap::{Heap, String};
 use doc_page_parts::path::{Path, PathError};
+use unicode_normalization::to_nfc;
 
 /// The path of the page in a file of a folder, of the folder's prefix and of the file's name in it, with `/` between a folder in the
-/// folder and what stands there. `None` says that the file is passed over: a part of its name begins with `.`, or the name doesn't
-/// end in `.md`. `BadPath` says that the name makes no path of a page; `Memory` may be answered before that is found.
-pub fn path_in_folder(heap: Heap, prefix: &str, name: &str) -> Result<Option<Path>, PathError>
-    ensures read { IfOk result (λ path. path_in_folder prefix.now name.now ≡ Ok path) }
-    ensures refused { IfErr result
-        (λ e. e ≢ PathError.Memory → path_in_folder prefix.now name.now ≡ Err e) }
+/// folder and what stands there. The name is normalised where this is asked for. `None` says that the file is passed over: a part of its
+/// name begins with `.`, or the name doesn't end in `.md`. A reason says that the name makes no path of a page.
+pub fn path_in_folder(
+    heap: Heap,
+    is_nfc: bool,
+    prefix: &str,
+    name: &str,
+) -> Result<Result<Option<Path>, Reason>, Memory>
+    ensures { IfOk result (λ path. path ≡ path_in_folder is_nfc prefix.now name.now) }
 {
     if !is_page_name(name) {
-        return Ok(None);
+        return Ok(Ok(None));
     }
-    let text = joined(heap, prefix, name)?;
-    Ok(Some(Path::new(heap, text.as_str())?))
+    let name = name_in_path(heap, is_nfc, name)?;
+    let text = joined(heap, prefix, name.as_str())?;
+    page_path(heap, text.as_str())
+}
+
+/// The name of a file as it stands in a path.
+fn name_in_path(heap: Heap, is_nfc: bool, name: &str) -> Result<String, Memory>
+    ensures { IfOk result (λ text. string_bytes text ≡ name_in_path is_nfc name.now) }
+{
+    if !is_nfc {
+        return Ok(String::from_str(heap, name)?);
+    }
+    Ok(to_nfc(heap, name)?)
+}
+
+/// A text as the path of a page.
+fn page_path(heap: Heap, text: &str) -> Result<Result<Option<Path>, Reason>, Memory>
+    ensures { IfOk result (λ path. path ≡ page_path text.now) }
+{
+    match Path::new(heap, text) {
+        Ok(path) => Ok(Ok(Some(path))),
+        Err(PathError::BadPath) => Ok(Err(path_reason(text))),
+        Err(PathError::Memory) => Err(Memory),
+    }
 }
 
 /// Whether a text can stand before names of files: with a slash and the shortest name it makes a path of a page.

@@ -7,6 +7,7 @@ ghost use Rattle.doc_server_config.specs.Folders.{file_at, folder_of, folders_fr
 
 use crate::except::except_in;
 use crate::file_name::is_prefix;
+use crate::folder_rules::{FolderRules, rules_of};
 use crate::growth::push;
 use crate::listening::ListeningError;
 use crate::table::has_only;
@@ -19,10 +20,15 @@ use doc_store_readers::tables::groups_in;
 use std::fmt;
 use toml::Value;
 
+/// The keys of a folder.
+const KEYS: &[&str] = &[
+    "except", "groups", "names", "on_bad", "path", "prefix", "readme",
+];
+
 /// Why a table is no folder.
 #[derive(Clone, Copy, Debug)]
 pub enum FolderFault {
-    /// It has a key other than `path`, `prefix`, `groups` and `except`.
+    /// It has a key other than `path`, `prefix`, `groups`, `except`, `names`, `readme` and `on_bad`.
     OtherKey,
     /// `path` isn't there, or no string.
     BadFile,
@@ -32,6 +38,12 @@ pub enum FolderFault {
     BadGroups,
     /// `except` is no array of names of folders.
     BadExcept,
+    /// `names` isn't `nfc`.
+    BadNames,
+    /// `readme` is no boolean.
+    BadReadme,
+    /// `on_bad` is neither `stop` nor `skip`.
+    BadOnBad,
 }
 
 impl fmt::Display for FolderFault {
@@ -42,6 +54,9 @@ impl fmt::Display for FolderFault {
             FolderFault::BadPrefix => "`prefix` is bad",
             FolderFault::BadGroups => "`groups` is bad",
             FolderFault::BadExcept => "`except` is bad",
+            FolderFault::BadNames => "`names` is bad",
+            FolderFault::BadReadme => "`readme` is bad",
+            FolderFault::BadOnBad => "`on_bad` is bad",
         })
     }
 }
@@ -57,6 +72,7 @@ pub struct Folder {
     pub groups: Groups,
     /// The names of the folders in it that are passed over, with all that stands below them.
     pub except: List<Text>,
+    pub rules: FolderRules,
 }
 
 /// The folders of tables, or the first table that is none, counted from 1.
@@ -94,19 +110,23 @@ fn folder_of(heap: Heap, table: &Value) -> Result<Result<Folder, FolderFault>, M
     let Some(except) = except_in(heap, table)? else {
         return Ok(Err(FolderFault::BadExcept));
     };
-    Ok(Ok(Folder {
-        file,
-        prefix,
-        groups,
-        except,
-    }))
+    match rules_of(table) {
+        Ok(rules) => Ok(Ok(Folder {
+            file,
+            prefix,
+            groups,
+            except,
+            rules,
+        })),
+        Err(fault) => Ok(Err(fault)),
+    }
 }
 
 fn has_other_key(table: &Value) -> bool
     ensures { result ≡ has_other_key (view table.now) }
 {
     match table.as_table() {
-        Some(table) => !has_only(table, &["except", "groups", "path", "prefix"]),
+        Some(table) => !has_only(table, KEYS),
         None => false,
     }
 }

@@ -1,27 +1,31 @@
 //! The pages of a folder.
 
-ghost use Rattle.std.specs.Prelude.{◌≡◌, ◌≤◌, false, Ok, Some, IfOk, OnOk, length};
+ghost use Rattle.std.specs.Prelude.{◌≡◌, ◌≤◌, false, Ok, Some, IfErr, IfOk, IfSome, OnOk, length};
 ghost use Rattle.std.specs.List.{All};
 ghost use Rattle.doc_store.specs.Store.{text_limit};
 ghost use Rattle.doc_server_config.specs.Excepted.{is_excepted};
-ghost use Rattle.doc_server_config.specs.FileNames.{path_in_folder};
-ghost use Rattle.doc_server_config.specs.FolderPages.{IsPageOf};
+ghost use Rattle.doc_server_config.specs.FolderPages.{IsFileOf, IsPageOf, MaySay, path_in};
+ghost use Rattle.doc_server_config.specs.Reasons.{is_of_path};
 
+use crate::bad_file::BadFile;
 use crate::except::is_excepted;
 use crate::file_name::path_in_folder;
 use crate::folder::Folder;
 use crate::growth::push;
+use crate::reason::{Reason, open_reason};
+use crate::taken::Taken;
 use crate::walk::{check_folders, files_in, joined};
+use doc_page_parts::failure::Memory;
 use doc_page_parts::heap::{Heap, String, Vec};
 use doc_page_parts::list::List;
-use doc_page_parts::path::{Path, PathError};
+use doc_page_parts::path::Path;
 use doc_page_parts::text::Text;
 use doc_server_streams::fault::Fault;
 use doc_server_streams::read_from::ReadFrom;
-use doc_server_streams::whole_input::{cannot_read, read_whole};
+use doc_server_streams::whole_input::read_whole;
 use doc_store::groups::Groups;
 use std::alloc::AllocGlobal;
-use std::fs::File;
+use std::fs::{File, metadata};
 use std::rt::Files;
 
 /// How many bytes the text of a page may have.
@@ -35,120 +39,172 @@ pub struct FolderPage {
     pub text: Text,
 }
 
-/// The pages of a folder, in the order of their paths: each regular file in it and below whose name ends in `.md`. Names that begin
-/// with `.`, links, and the folders that it excepts are passed over. `CannotRead` names a folder that can't be read, an excepted one
-/// that isn't there, or a file that can't be read, whose text isn't UTF-8 or too long for a page, or whose name makes no path of one.
-/// Which files a folder has no clause says, and of a refusal nothing.
+/// What a file of a folder is that isn't passed over by its name.
+#[derive(Drop)]
+pub enum FolderFile {
+    Page(FolderPage),
+    Bad(BadFile),
+}
+
+/// The files of a folder, in the order of their names: each regular file in it and below whose name ends in `.md`. Names that begin
+/// with `.`, links, and the folders that it excepts are passed over. `CannotRead` names a folder that can't be read, or an excepted one
+/// that isn't there. Which files a folder has no clause says, and of a refusal nothing. What its pages take is noted.
 pub fn read_folder<R: AllocGlobal + Files + Clone + Drop>(
     rt: &R,
     heap: Heap,
     folder: &Folder,
-) -> Result<List<FolderPage>, Fault>
-    ensures { IfOk result (λ pages. All (IsPageOf folder.now) pages) }
+    taken: &mut Taken,
+) -> Result<List<FolderFile>, Fault>
+    ensures { IfOk result (λ files. All (IsFileOf folder.now) files) }
 {
     let (root, except) = (folder.file.get(), folder.except.get());
-    let files = files_in(rt, heap, root, except)?;
+    let names = files_in(rt, heap, root, except)?;
     check_folders(rt, heap, root, except)?;
-    let mut pages = Vec::new(heap);
-    for file in files.as_slice() {
-        add_file(rt, heap, folder, file.as_str(), &mut pages)?;
+    taken.begin_folder();
+    let mut files = Vec::new(heap);
+    for name in names.as_slice() {
+        add_file(rt, heap, folder, name.as_str(), taken, &mut files)?;
     }
-    Ok(List::new(pages))
+    Ok(List::new(files))
 }
 
-/// Adds the page in a file, where it isn't passed over.
+/// Adds a file, where it isn't passed over.
 fn add_file<R: AllocGlobal + Files + Clone + Drop>(
     rt: &R,
     heap: Heap,
     folder: &Folder,
     file: &str,
-    pages: &mut Vec<FolderPage>,
-) -> Result<(), Fault>
-    ensures { All (IsPageOf folder.now) pages.old.items
-        → OnOk result (All (IsPageOf folder.now) pages.new.items) }
+    taken: &mut Taken,
+    files: &mut Vec<FolderFile>,
+) -> Result<(), Memory>
+    ensures { All (IsFileOf folder.now) files.old.items
+        → OnOk result (All (IsFileOf folder.now) files.new.items) }
 {
     if is_excepted(folder.except.get(), file) {
         return Ok(());
     }
-    match path_of(heap, folder, file)? {
-        Some(path) => add_page(rt, heap, folder, path, file, pages),
+    match file_of(rt, heap, folder, file, taken)? {
+        Some(found) => push(files, found),
         None => Ok(()),
     }
 }
 
-/// The path of the page in a file; none where the file is passed over.
-fn path_of(heap: Heap, folder: &Folder, file: &str) -> Result<Option<Path>, Fault>
-    ensures { IfOk result (λ path. path_in_folder folder.now.prefix file.now ≡ Ok path) }
+/// What a file is; none where it is passed over.
+fn file_of<R: AllocGlobal + Files + Clone + Drop>(
+    rt: &R,
+    heap: Heap,
+    folder: &Folder,
+    file: &str,
+    taken: &mut Taken,
+) -> Result<Option<FolderFile>, Memory>
+    requires { is_excepted folder.now.except file.now ≡ false }
+    ensures { IfOk result (λ found. IfSome found (IsFileOf folder.now)) }
 {
-    match path_in_folder(heap, folder.prefix.get(), file) {
-        Ok(path) => Ok(path),
-        Err(PathError::Memory) => Err(Fault::Memory),
-        Err(PathError::BadPath) => Err(no_page(heap, folder, file)),
+    match page_of(rt, heap, folder, file, taken)? {
+        Ok(None) => Ok(None),
+        Ok(Some(page)) => Ok(Some(FolderFile::Page(page))),
+        Err(reason) => {
+            let bad = BadFile::new(heap, folder, file, reason)?;
+            Ok(Some(FolderFile::Bad(bad)))
+        }
     }
 }
 
-/// What stops the program where the name of a file makes no path of a page.
-fn no_page(heap: Heap, folder: &Folder, file: &str) -> Fault {
-    match joined(heap, folder.file.get(), file) {
-        Ok(name) => cannot_read(heap, name.as_str()),
-        Err(_) => Fault::Memory,
+/// The page in a file, or why it has none; nothing where the file is passed over.
+fn page_of<R: AllocGlobal + Files + Clone + Drop>(
+    rt: &R,
+    heap: Heap,
+    folder: &Folder,
+    file: &str,
+    taken: &mut Taken,
+) -> Result<Result<Option<FolderPage>, Reason>, Memory>
+    requires { is_excepted folder.now.except file.now ≡ false }
+    ensures page { IfOk result
+        (λ found. IfOk found (λ page. IfSome page (IsPageOf folder.now))) }
+    ensures reason { IfOk result
+        (λ found. IfErr found (MaySay (path_in folder.now file.now))) }
+{
+    match path_in(heap, folder, file)? {
+        Ok(Some(path)) => page_at(rt, heap, folder, path, file, taken),
+        Ok(None) => Ok(Ok(None)),
+        Err(reason) => Ok(Err(reason)),
     }
 }
 
-/// Adds the page in a file, which stands under this path.
-fn add_page<R: AllocGlobal + Files + Clone + Drop>(
+/// The path of the page in a file, or why it makes none; nothing where the file is passed over.
+fn path_in(heap: Heap, folder: &Folder, file: &str) -> Result<Result<Option<Path>, Reason>, Memory>
+    ensures { IfOk result (λ path. path ≡ path_in folder.now file.now) }
+{
+    path_in_folder(heap, folder.rules.is_nfc, folder.prefix.get(), file)
+}
+
+/// The page in a file, which stands under this path.
+fn page_at<R: AllocGlobal + Files + Clone + Drop>(
     rt: &R,
     heap: Heap,
     folder: &Folder,
     path: Path,
     file: &str,
-    pages: &mut Vec<FolderPage>,
-) -> Result<(), Fault>
+    taken: &mut Taken,
+) -> Result<Result<Option<FolderPage>, Reason>, Memory>
     requires inside { is_excepted folder.now.except file.now ≡ false }
-    requires path { path_in_folder folder.now.prefix file.now ≡ Ok (Some path) }
-    ensures { All (IsPageOf folder.now) pages.old.items
-        → OnOk result (All (IsPageOf folder.now) pages.new.items) }
+    requires path { path_in folder.now file.now ≡ Ok (Some path) }
+    ensures page { IfOk result
+        (λ found. IfOk found (λ page. IfSome page (IsPageOf folder.now))) }
+    ensures reason { IfOk result
+        (λ found. IfErr found (λ reason. is_of_path reason ≡ false)) }
 {
-    let text = read_text(rt, heap, folder, file)?;
+    let name = joined(heap, folder.file.get(), file)?;
+    let text = match read_text(rt, heap, name.as_str())? {
+        Ok(text) => text,
+        Err(reason) => return Ok(Err(reason)),
+    };
+    if let Err(reason) = taken.take_page(folder.rules.is_nfc, &path, name.as_str())? {
+        return Ok(Err(reason));
+    }
     let groups = folder.groups.copy(heap)?;
-    Ok(push(pages, FolderPage { path, groups, text })?)
+    Ok(Ok(Some(FolderPage { path, groups, text })))
 }
 
-/// The text of a file of the folder.
+/// The text of a file, or why it has none that a page may have.
+#[tactic(auto, unfolding(doc_store::specs::Store::text_limit))]
 fn read_text<R: AllocGlobal + Files>(
     rt: &R,
     heap: Heap,
-    folder: &Folder,
-    file: &str,
-) -> Result<Text, Fault>
-    ensures { IfOk result (λ text. length text ≤ text_limit) }
+    name: &str,
+) -> Result<Result<Text, Reason>, Memory>
+    ensures text { IfOk result (λ read. IfOk read (λ text. length text ≤ text_limit)) }
+    ensures reason { IfOk result (λ read. IfErr read (λ reason. is_of_path reason ≡ false)) }
 {
-    let name = joined(heap, folder.file.get(), file)?;
-    read_file(rt, heap, name.as_str())
+    let file = match File::open(rt, name) {
+        Ok(file) => file,
+        Err(e) => return Ok(Err(open_reason(e.kind()))),
+    };
+    match read_whole(heap, name, &mut ReadFrom::new(file), TEXT_LIMIT) {
+        Ok(bytes) => Ok(text_of(bytes)),
+        Err(Fault::Memory) => Err(Memory),
+        Err(Fault::Refused) => Ok(Err(Reason::LongPage)),
+        Err(_) => Ok(Err(read_reason(rt, name))),
+    }
 }
 
-/// The text of a file.
-#[tactic(auto, unfolding(doc_store::specs::Store::text_limit))]
-fn read_file<R: AllocGlobal + Files>(rt: &R, heap: Heap, name: &str) -> Result<Text, Fault>
-    ensures { IfOk result (λ text. length text ≤ text_limit) }
+/// Why a file that is open isn't read.
+fn read_reason<R: Files>(rt: &R, name: &str) -> Reason
+    ensures { is_of_path result ≡ false }
 {
-    let Ok(file) = File::open(rt, name) else {
-        return Err(cannot_read(heap, name));
-    };
-    let read = read_whole(heap, name, &mut ReadFrom::new(file), TEXT_LIMIT);
-    match read {
-        Ok(bytes) => text_of(heap, name, bytes),
-        Err(Fault::Refused) => Err(cannot_read(heap, name)),
-        Err(fault) => Err(fault),
+    match metadata(rt, name) {
+        Ok(found) if found.is_dir() => Reason::IsFolder,
+        _ => Reason::Unread,
     }
 }
 
 /// The bytes as a text.
-fn text_of(heap: Heap, name: &str, bytes: Vec<u8>) -> Result<Text, Fault>
-    ensures { IfOk result (λ text. text ≡ bytes.items) }
+fn text_of(bytes: Vec<u8>) -> Result<Text, Reason>
+    ensures text { IfOk result (λ text. text ≡ bytes.items) }
+    ensures reason { IfErr result (λ reason. is_of_path reason ≡ false) }
 {
     match String::from_utf8(bytes) {
         Ok(text) => Ok(Text::new(text)),
-        Err(_) => Err(cannot_read(heap, name)),
+        Err(_) => Err(Reason::NoText),
     }
 }

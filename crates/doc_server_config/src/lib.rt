@@ -6,6 +6,7 @@
 //! and links.
 #![tactic(auto)]
 
+pub mod bad_file;
 pub mod bounds;
 pub mod browsing;
 mod browsing_keys;
@@ -16,11 +17,15 @@ mod except;
 pub mod file_name;
 pub mod folder;
 pub mod folder_pages;
+pub mod folder_rules;
 mod growth;
 pub mod listening;
-mod markdown;
+pub mod markdown;
 pub mod overlap;
 pub mod page_row;
+pub mod readme;
+pub mod reason;
 pub mod settings;
 mod table;
+pub mod taken;
 mod walk;

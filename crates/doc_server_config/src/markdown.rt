@@ -3,34 +3,91 @@
 ghost use Rattle.std.specs.Prelude.{◌≡◌, codes};
 ghost use Rattle.toml.specs.Data.{get_member};
 ghost use Rattle.toml.specs.View.{table_view};
-ghost use Rattle.doc_server_config.specs.Markdown.{flag_at, front_at, front_of_table, matter_at, matter_of};
+ghost use Rattle.doc_server_config.specs.Markdown.{flag_at, front_of_table, markdown_at, markdown_of_table, matter_at, matter_of};
+ghost use Rattle.doc_server_config.specs.Markdown.{options_of_table, plain};
 
 use crate::table::{has_only, value_at};
 use doc_front::rules::{FrontMatter, FrontRules};
+use doc_lines::options::Options;
 use toml::Table;
 
-/// What is cut of the fronts of texts: what the table `markdown` says by `skip_bom` (a boolean, else `false`) and `front_matter` (`skip`
-/// or `title`, else front matter is text). `None` says that it is no table, has another key, or holds what it may not.
-pub(crate) fn front_in(document: &Table) -> Option<FrontRules>
-    ensures { result ≡ front_at (get_member (codes "markdown") (table_view document.now)) }
+/// How texts are read.
+#[derive(Clone, Copy, Debug)]
+pub struct Markdown {
+    /// What is cut of their fronts.
+    pub front: FrontRules,
+    /// The extensions of CommonMark that are read.
+    pub options: Options,
+}
+
+impl Markdown {
+    /// Texts are read as they stand, by CommonMark alone.
+    pub fn plain() -> Self
+        ensures { result ≡ plain }
+    {
+        Markdown {
+            front: FrontRules::none(),
+            options: Options::default(),
+        }
+    }
+}
+
+/// How texts are read: what the table `markdown` says by the booleans `bare_links`, `skip_bom`, `strikethrough`, `tables` and `tasks`
+/// (else `false`) and by `front_matter` (`skip` or `title`, else front matter is text). `None` says that it is no table, has another
+/// key, or holds what it may not.
+pub(crate) fn markdown_in(document: &Table) -> Option<Markdown>
+    ensures { result ≡ markdown_at (get_member (codes "markdown") (table_view document.now)) }
 {
     let Some(value) = value_at(document, "markdown") else {
-        return Some(FrontRules::none());
+        return Some(Markdown::plain());
     };
-    front_of_table(value.as_table()?)
+    markdown_of_table(value.as_table()?)
+}
+
+fn markdown_of_table(table: &Table) -> Option<Markdown>
+    ensures { result ≡ markdown_of_table (table_view table.now) }
+{
+    if !has_only(
+        table,
+        &[
+            "bare_links",
+            "front_matter",
+            "skip_bom",
+            "strikethrough",
+            "tables",
+            "tasks",
+        ],
+    ) {
+        return None;
+    }
+    let front = front_of_table(table)?;
+    let options = options_of_table(table)?;
+    Some(Markdown { front, options })
 }
 
 fn front_of_table(table: &Table) -> Option<FrontRules>
     ensures { result ≡ front_of_table (table_view table.now) }
 {
-    if !has_only(table, &["front_matter", "skip_bom"]) {
-        return None;
-    }
     let skip_bom = flag_in(table, "skip_bom")?;
     let front_matter = matter_in(table)?;
     Some(FrontRules {
         skip_bom,
         front_matter,
+    })
+}
+
+fn options_of_table(table: &Table) -> Option<Options>
+    ensures { result ≡ options_of_table (table_view table.now) }
+{
+    let tables = flag_in(table, "tables")?;
+    let strikethrough = flag_in(table, "strikethrough")?;
+    let tasks = flag_in(table, "tasks")?;
+    let bare_links = flag_in(table, "bare_links")?;
+    Some(Options {
+        tables,
+        strikethrough,
+        tasks,
+        bare_links,
     })
 }
 

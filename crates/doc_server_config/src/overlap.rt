@@ -14,7 +14,7 @@ use std::marker::Model;
 
 /// The paths of pages, each with whether it came again. Contracts see the map.
 #[derive(Drop)]
-struct Marks {
+pub(crate) struct Marks {
     entries: BTreeMap<Path, bool>,
 }
 
@@ -33,7 +33,7 @@ impl Model for Marks {
 
 impl Marks {
     /// Those of these pages.
-    fn of(heap: Heap, pages: &[PageRow]) -> Result<Marks, Memory>
+    pub(crate) fn of(heap: Heap, pages: &[PageRow]) -> Result<Marks, Memory>
         ensures { IfOk result (λ marks. AreMarks (paths_of pages.now) marks) }
     {
         let mut marks = Marks::none(heap);
@@ -67,7 +67,8 @@ impl Marks {
         Ok(())
     }
 
-    fn has(&self, path: &Path) -> bool
+    /// Whether a path is there.
+    pub(crate) fn has(&self, path: &Path) -> bool
         ensures { result ≡ map.contains_key self.now path.now }
     {
         self.entries.contains_key(path)
@@ -106,6 +107,12 @@ impl Marks {
         }
         None
     }
+}
+
+/// How many different paths some pages have.
+pub(crate) fn path_count(heap: Heap, pages: &[PageRow]) -> Result<usize, Memory> {
+    let marks = Marks::of(heap, pages)?;
+    Ok(marks.entries.len())
 }
 
 /// The first path, in the order of the rows of a configuration and of the pages of its folders behind them, that two of these give, of

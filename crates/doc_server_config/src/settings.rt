@@ -3,12 +3,11 @@
 ghost use Rattle.std.specs.Prelude.{◌≡◌, IfOk, codes};
 ghost use Rattle.toml.specs.Data.{as_integer, get_member};
 ghost use Rattle.toml.specs.View.{table_view};
-ghost use Rattle.doc_server_config.specs.Markdown.{front_at};
+ghost use Rattle.doc_server_config.specs.Markdown.{markdown_at};
 ghost use Rattle.doc_server_config.specs.Settings.{cache_at, capacity_of, entities_at, keep_alive_at, settings_in};
 
-use crate::markdown::front_in;
+use crate::markdown::{Markdown, markdown_in};
 use crate::table::value_at;
-use doc_front::rules::FrontRules;
 use doc_page_parts::failure::Memory;
 use doc_page_parts::heap::Heap;
 use doc_page_parts::text::Text;
@@ -26,8 +25,8 @@ pub struct Settings {
     pub cache: usize,
     /// The file of a table of entities (HTML, section 13.5), as it is to be opened.
     pub entities: Option<Text>,
-    /// What is cut of the fronts of texts. Without the table `markdown` nothing is.
-    pub front: FrontRules,
+    /// How texts are read. Without the table `markdown` they are read as they stand, by CommonMark alone.
+    pub markdown: Markdown,
 }
 
 /// The settings of a document. `None` says that one of their keys holds what it may not.
@@ -43,14 +42,14 @@ pub(crate) fn settings_in(heap: Heap, document: &Table) -> Result<Option<Setting
     let Some(entities) = entities_in(heap, document)? else {
         return Ok(None);
     };
-    let Some(front) = front_in(document) else {
+    let Some(markdown) = markdown_in(document) else {
         return Ok(None);
     };
     Ok(Some(Settings {
         keep_alive,
         cache,
         entities,
-        front,
+        markdown,
     }))
 }
 

@@ -11,7 +11,7 @@ use Rattle.doc_store.specs.declared.site_edit.SiteEdit.{SiteEdit}
 use Rattle.doc_store.specs.declared.site_edit.SiteEdit.TheVariants as site_edits
 use Rattle.doc_hub_events.specs.declared.event.Event.{Event}
 use Rattle.doc_hub_events.specs.declared.event.Event.TheVariants as events
-use Rattle.doc_server.specs.Scripts.{events_of}
+use Rattle.doc_server_script.specs.Scripts.{events_of}
 use Rattle.doc_server_script.specs.Replays.{edited}
 use Rattle.doc_server_restore.specs.declared.fault.RestoreFault.{RestoreFault}
 use Rattle.doc_server_restore.specs.declared.fault.RestoreFault.TheVariants as faults

@@ -22,6 +22,13 @@ pub record HasOthers (rows pages : List PageRow) : Type 0 where
   pub all : pages ≡ rows ++ others
   pub apart : first_overlap (paths_of rows) (paths_of others) ≡ None
 
+-- The pages of a configuration that is some document's.
+pub record IsOwn (config : SiteConfig) : Type 0 where
+  pub document : Members
+  pub own : SiteConfig
+  pub is_own : config_of_document document ≡ Ok own
+  pub pages : config.pages ≡ own.pages
+
 -- The pages of a configuration that is some document's, and behind them such others.
 pub record HasOwnPaths (config : SiteConfig) : Type 0 where
   pub document : Members

@@ -26,6 +26,8 @@ pub enum Command<'a> {
     Serve(Serve<'a>),
     Listen(Listen<'a>),
     Compact(Compact<'a>),
+    /// The folders of the configuration of this name.
+    Folders(&'a str),
 }
 
 /// The report of a reader of a configured site.
@@ -136,6 +138,7 @@ pub fn command_of(words: &[String]) -> Result<Command<'_>, Fault> {
         ("compact", [config, option, journal]) => {
             compact_of(config.as_str(), option.as_str(), journal.as_str())
         }
+        ("folders", [config]) => Ok(Command::Folders(config.as_str())),
         _ => Err(Fault::Usage),
     }
 }

@@ -2,23 +2,25 @@
 
 ghost use Rattle.std.specs.Prelude.{◌≡◌, ◌++◌, IfOk, OnOk, None};
 ghost use Rattle.doc_server_config.specs.Overlaps.{first_overlap, paths_of};
-ghost use Rattle.docs_server.specs.Listening.{HasOthers, HasOwnPaths, row_of};
+ghost use Rattle.docs_server.specs.Listening.{HasOthers, HasOwnPaths, IsOwn};
 
 use crate::files::{Pages, Site, config_of, document_of, read_file, site_of};
+use crate::folder_rows::{FolderRows, read_folders};
 use crate::listen_fault::ListenFault;
 use doc_page_parts::failure::Memory;
 use doc_page_parts::heap::{Heap, Vec};
 use doc_page_parts::list::List;
 use doc_people::settings::Browse;
+use doc_server_config::bad_file::BadFile;
 use doc_server_config::bounds::Bounds;
 use doc_server_config::browsing::BrowseError;
 use doc_server_config::config::SiteConfig;
 use doc_server_config::document::Document;
 use doc_server_config::folder::Folder;
-use doc_server_config::folder_pages::{FolderPage, read_folder};
 use doc_server_config::listening::{Listening, ListeningError};
 use doc_server_config::overlap::first_overlap;
-use doc_server_config::page_row::{PageRow, Source};
+use doc_server_config::page_row::PageRow;
+use doc_server_config::readme::{Move, free_moves};
 use doc_server_streams::fault::Fault;
 use std::rt::Files;
 
@@ -26,6 +28,26 @@ use std::rt::Files;
 pub struct Bounded {
     pub site: Site,
     pub bounds: Bounds,
+    /// The moves that are made on its pages, once they stand.
+    pub moves: List<Move>,
+    /// The bad files that its folders pass over.
+    pub passed: List<BadFile>,
+}
+
+/// Pages with those of folders behind them.
+struct Gathered {
+    pages: Pages,
+    /// The moves that are made on them.
+    moves: List<Move>,
+    /// The bad files that the folders pass over.
+    passed: List<BadFile>,
+}
+
+/// A configuration that is read up to its folders.
+struct Opened {
+    site: Site,
+    bounds: Bounds,
+    folders: List<Folder>,
 }
 
 /// The site of the configuration of this name, its folders' pages behind its own, and its bounds. Folders are read last; `Twice` has
@@ -37,16 +59,54 @@ pub fn read_bounded<R: AllocGlobal + Files + Clone + Drop>(
     ensures { IfOk result (λ bounded. HasOwnPaths bounded.site.pages.config) }
 {
     let heap = rt.alloc();
+    let Opened {
+        site,
+        bounds,
+        folders,
+    } = open(rt, heap, name)?;
+    let Site { pages, entities } = site;
+    let Gathered {
+        pages,
+        moves,
+        passed,
+    } = with_folders(rt, heap, pages, folders.get())?;
+    Ok(Bounded {
+        site: Site { pages, entities },
+        bounds,
+        moves,
+        passed,
+    })
+}
+
+/// The files of the folders of the configuration of this name, which is read as far as that.
+pub fn read_all_folders<R: AllocGlobal + Files + Clone + Drop>(
+    rt: &R,
+    name: &str,
+) -> Result<FolderRows, ListenFault> {
+    let heap = rt.alloc();
+    let Opened {
+        site,
+        bounds: _,
+        folders,
+    } = open(rt, heap, name)?;
+    let Site { pages, entities: _ } = site;
+    let rows = pages.config.pages.get();
+    read_folders(rt, heap, rows, folders.get(), true)
+}
+
+/// The configuration of this name, with the files that it names.
+fn open<R: AllocGlobal + Files>(rt: &R, heap: Heap, name: &str) -> Result<Opened, ListenFault>
+    ensures { IfOk result (λ opened. IsOwn opened.site.pages.config) }
+{
     let text = read_file(rt, heap, name)?;
     let document = document_of(heap, &text)?;
     let mut config = config_of(heap, &document)?;
     let Listening { bounds, folders } = listening_of(heap, &document)?;
     config.browse = browse_of(heap, &document)?;
-    let Site { pages, entities } = site_of(rt, heap, config)?;
-    let pages = with_folders(rt, heap, pages, folders.get())?;
-    Ok(Bounded {
-        site: Site { pages, entities },
+    Ok(Opened {
+        site: site_of(rt, heap, config)?,
         bounds,
+        folders,
     })
 }
 
@@ -74,50 +134,46 @@ fn with_folders<R: AllocGlobal + Files + Clone + Drop>(
     heap: Heap,
     pages: Pages,
     folders: &[Folder],
-) -> Result<Pages, ListenFault>
+) -> Result<Gathered, ListenFault>
     ensures { IfOk result
-        (λ all. HasOthers pages.config.pages all.config.pages) }
+        (λ all. HasOthers pages.config.pages all.pages.config.pages) }
 {
     let Pages { config, texts } = pages;
     let SiteConfig {
         keep_alive,
         cache,
         entities,
-        front,
+        markdown,
         readers,
         pages,
         browse,
     } = config;
     let rows = pages.into_inner();
-    let others = read_folders(rt, heap, folders)?;
+    let found = read_folders(rt, heap, &rows, folders, false)?;
+    let FolderRows {
+        rows: others,
+        moves,
+        bad,
+    } = found;
     check_overlap(heap, &rows, &others)?;
     let pages = joined(rows, others)?;
-    Ok(Pages {
-        config: SiteConfig {
-            keep_alive,
-            cache,
-            entities,
-            front,
-            readers,
-            pages,
-            browse,
+    let moves = free_moves(heap, pages.get(), moves)?;
+    Ok(Gathered {
+        pages: Pages {
+            config: SiteConfig {
+                keep_alive,
+                cache,
+                entities,
+                markdown,
+                readers,
+                pages,
+                browse,
+            },
+            texts,
         },
-        texts,
+        moves: List::new(moves),
+        passed: List::new(bad),
     })
-}
-
-/// The pages of folders.
-fn read_folders<R: AllocGlobal + Files + Clone + Drop>(
-    rt: &R,
-    heap: Heap,
-    folders: &[Folder],
-) -> Result<Vec<PageRow>, Fault> {
-    let mut rows = Vec::new(heap);
-    for folder in folders {
-        let found = read_folder(rt, heap, folder)?;
-        add_rows(&mut rows, found)?;
-    }
-    Ok(rows)
 }
 
 /// Refuses pages of folders that have a path which another page has.
@@ -139,24 +195,4 @@ fn joined(rows: Vec<PageRow>, others: Vec<PageRow>) -> Result<List<PageRow>, Mem
         pages.push(page)?;
     }
     Ok(List::new(pages))
-}
-
-/// Adds the pages of a folder.
-fn add_rows(rows: &mut Vec<PageRow>, pages: List<FolderPage>) -> Result<(), Memory> {
-    for page in pages.into_inner() {
-        rows.push(row_of(page))?;
-    }
-    Ok(())
-}
-
-/// A page of a folder, as one of the configuration.
-fn row_of(page: FolderPage) -> PageRow
-    ensures { result ≡ row_of page }
-{
-    let FolderPage { path, groups, text } = page;
-    PageRow {
-        path,
-        groups,
-        source: Source::Text(text),
-    }
 }

@@ -6,10 +6,14 @@ use crate::files::{Pages, Site};
 use crate::held::hold;
 use crate::journal::{make_reserve, restore_journal};
 use crate::listen_fault::ListenFault;
+use crate::moving::make_moves;
 use crate::site_store::site_store;
 use crate::status::status_of;
+use crate::told_folders::tell_passed;
 use crate::torn::TornFile;
 use doc_page_parts::heap::Heap;
+use doc_page_parts::list::List;
+use doc_server_config::readme::Move;
 use doc_server_journal::clock::seconds_of;
 use doc_server_journal::file_device::FileDevice;
 use doc_server_journal::names::Replacement;
@@ -35,29 +39,37 @@ fn compact_with<P: AllocGlobal + Clock + Clone + Drop + Eprint + Files<File = Fi
     rt: &P,
     command: &Compact<'_>,
 ) -> Result<(), ListenFault> {
-    let pages = pages_of(rt, command.config)?;
-    compact_over(rt, &pages, command)
+    let (pages, moves) = pages_of(rt, command.config)?;
+    compact_over(rt, &pages, moves.get(), command)
 }
 
-/// The pages of the configuration of this name, those of its folders behind its own.
-fn pages_of<P: AllocGlobal + Clone + Drop + Files>(
+/// The pages of the configuration of this name, those of its folders behind its own, and the moves that are made on them.
+fn pages_of<P: AllocGlobal + Clone + Drop + Eprint + Files>(
     rt: &P,
     config: &str,
-) -> Result<Pages, ListenFault> {
-    let Bounded { site, bounds: _ } = read_bounded(rt, config)?;
+) -> Result<(Pages, List<Move>), ListenFault> {
+    let Bounded {
+        site,
+        bounds: _,
+        moves,
+        passed,
+    } = read_bounded(rt, config)?;
+    tell_passed(rt, passed.get());
     let Site { pages, entities: _ } = site;
-    Ok(pages)
+    Ok((pages, moves))
 }
 
 /// The same over these pages, which stand in a store.
 fn compact_over<P: AllocGlobal + Clock + Eprint + Files<File = File>>(
     rt: &P,
     pages: &Pages,
+    moves: &[Move],
     command: &Compact<'_>,
 ) -> Result<(), ListenFault> {
     let heap = rt.alloc();
-    let config = site_store(heap, &pages.config, pages.texts.get())?;
-    compact_beside(rt, heap, pages, &config, command)
+    let mut config = site_store(heap, &pages.config, pages.texts.get())?;
+    make_moves(&mut config, moves)?;
+    compact_beside(rt, heap, pages, moves, &config, command)
 }
 
 /// The same, where they stand in a second store too: the journal's edits are made on it.
@@ -65,10 +77,12 @@ fn compact_beside<P: AllocGlobal + Clock + Eprint + Files<File = File>>(
     rt: &P,
     heap: Heap,
     pages: &Pages,
+    moves: &[Move],
     config: &Store,
     command: &Compact<'_>,
 ) -> Result<(), ListenFault> {
     let mut site = site_store(heap, &pages.config, pages.texts.get())?;
+    make_moves(&mut site, moves)?;
     compact_held(rt, heap, config, &mut site, command)
 }
 

@@ -46,6 +46,7 @@ pub fn read_site<R: AllocGlobal + Files>(rt: &R, name: &str) -> Result<Site, Fau
 pub fn site_of<R: Files>(rt: &R, heap: Heap, config: SiteConfig) -> Result<Site, Fault>
     ensures { IfOk result (λ site. site.pages.config ≡ config) }
 {
+    let options = config.markdown.options;
     let table = read_table(rt, heap, &config)?;
     let texts = read_pages(rt, heap, config.pages.get())?;
     let entities = match table {
@@ -54,7 +55,7 @@ pub fn site_of<R: Files>(rt: &R, heap: Heap, config: SiteConfig) -> Result<Site,
     };
     Ok(Site {
         pages: Pages { config, texts },
-        entities,
+        entities: entities.with_options(options),
     })
 }
 

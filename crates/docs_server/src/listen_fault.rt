@@ -2,6 +2,7 @@
 
 use doc_page_parts::failure::Memory;
 use doc_page_parts::path::Path;
+use doc_server_config::bad_file::BadFile;
 use doc_server_config::browsing::BrowseError;
 use doc_server_config::listening::ListeningError;
 use doc_server_journal::fault::OpenFault;
@@ -25,6 +26,9 @@ pub enum ListenFault {
     /// What it says of the pages for people is bad.
     #[error("config: {0}")]
     Browsing(BrowseError),
+    /// A file of a folder is bad.
+    #[error("cannot read {0}")]
+    Bad(BadFile),
     /// Two pages have this path, of which one is a folder's.
     #[error("config: {} twice", .0.text())]
     Twice(Path),

@@ -11,9 +11,11 @@ use crate::files::{Pages, Site};
 use crate::held::hold;
 use crate::journal::{make_reserve, open_journal};
 use crate::listen_fault::ListenFault;
+use crate::moving::make_moves;
 use crate::named_device::NamedDevice;
 use crate::serving::tell_address;
 use crate::status::status_of;
+use crate::told_folders::tell_passed;
 use crate::torn::TornFile;
 use doc_html::CommonMark;
 use doc_hub::hub::Hub;
@@ -21,6 +23,7 @@ use doc_page::renderer::Renderer;
 use doc_page_parts::heap::Heap;
 use doc_server::site::site_hub;
 use doc_server_config::bounds::Bounds;
+use doc_server_config::readme::Move;
 use doc_server_journal::device::Device;
 use doc_server_journal::file_device::FileDevice;
 use doc_server_journal::file_fault::FileFault;
@@ -55,14 +58,25 @@ pub fn run_listen<
     requires some { 0 < L.parts }
 {
     match read_bounded(rt, command.config) {
-        Ok(Bounded { site, bounds }) => {
+        Ok(
+            Bounded {
+                site,
+                bounds,
+                moves,
+                passed,
+            },
+        ) => {
+            tell_passed(rt, passed.get());
             let Site { pages, entities } = site;
             let renderer: CommonMark<L> = CommonMark::with_front(
                 entities,
                 blank,
-                pages.config.front,
+                pages.config.markdown.front,
             );
-            status_of(rt, listen_with(rt, renderer, pages, bounds, command))
+            status_of(
+                rt,
+                listen_with(rt, renderer, pages, moves.get(), bounds, command),
+            )
         }
         Err(fault) => status_of(rt, Err(fault)),
     }
@@ -77,11 +91,13 @@ fn listen_with<
     rt: &P,
     renderer: R,
     pages: Pages,
+    moves: &[Move],
     bounds: Bounds,
     command: &Listen<'_>,
 ) -> Result<u8, ListenFault> {
     let heap = rt.alloc();
     let mut hub = site_hub(heap, renderer, pages.config, pages.texts.get())?;
+    make_moves(&mut hub, moves)?;
     listen_on(rt, heap, &mut hub, &bounds, command)
 }
 

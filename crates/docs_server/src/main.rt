@@ -7,17 +7,20 @@ mod bounded;
 mod commands;
 mod compacting;
 mod files;
+mod folder_rows;
 mod held;
 mod journal;
 mod listen_fault;
 mod listen_options;
 mod listening;
+mod moving;
 mod named_device;
 mod request_line;
 mod serving;
 mod site_store;
 mod sites;
 mod status;
+mod told_folders;
 mod torn;
 mod unanswered;
 
@@ -28,6 +31,7 @@ use crate::listening::run_listen;
 use crate::serving::run_serve;
 use crate::sites::{run_check, run_replay};
 use crate::status::status_of;
+use crate::told_folders::run_folders;
 use doc_server_streams::fault::Fault;
 use std::fs::File;
 use std::marker::Brand;
@@ -64,5 +68,6 @@ where
         Command::Serve(serve) => run_serve::<Brand, R>(rt, Blank::new(1), &serve),
         Command::Listen(listen) => Ok(run_listen::<Brand, R>(rt, Blank::new(1), &listen)),
         Command::Compact(compact) => Ok(run_compact(rt, &compact)),
+        Command::Folders(config) => Ok(run_folders(rt, config)),
     }
 }

@@ -29,7 +29,11 @@ pub fn run_serve<
     requires some { 0 < L.parts }
 {
     let Site { pages, entities } = read_site(rt, command.config)?;
-    let renderer: CommonMark<L> = CommonMark::with_front(entities, blank, pages.config.front);
+    let renderer: CommonMark<L> = CommonMark::with_front(
+        entities,
+        blank,
+        pages.config.markdown.front,
+    );
     serve_with(rt, renderer, pages, command)
 }
 

@@ -26,7 +26,11 @@ pub fn run_check<L: Ledger, P: AllocGlobal + Files + Print>(
     requires some { 0 < L.parts }
 {
     let Site { pages, entities } = read_site(rt, command.config)?;
-    let renderer: CommonMark<L> = CommonMark::with_front(entities, blank, pages.config.front);
+    let renderer: CommonMark<L> = CommonMark::with_front(
+        entities,
+        blank,
+        pages.config.markdown.front,
+    );
     check_with(rt, renderer, pages, command.token)
 }
 
@@ -60,7 +64,11 @@ pub fn run_replay<L: Ledger, P: AllocGlobal + Files + Input + Print>(
     requires some { 0 < L.parts }
 {
     let Site { pages, entities } = read_site(rt, command.config)?;
-    let renderer: CommonMark<L> = CommonMark::with_front(entities, blank, pages.config.front);
+    let renderer: CommonMark<L> = CommonMark::with_front(
+        entities,
+        blank,
+        pages.config.markdown.front,
+    );
     replay_with(rt, renderer, pages)
 }
 

@@ -8,7 +8,8 @@ use doc_page_parts::text::Text;
 #[derive(Drop)]
 pub enum Kind {
     Nothing,
-    Paragraph,
+    /// Whether a table is in its text.
+    Paragraph { table: bool },
     /// Indented code.
     Code,
     /// A fence with its info string, whose escapes and references are read.

@@ -6,6 +6,8 @@ use crate::texts::printed::{compared, printed_made};
 use crate::texts::tools::Tools;
 use doc_blocks::blocks;
 use doc_html::{render_plain, to_html};
+use doc_lines::entities::Entities;
+use doc_lines::options::Options;
 use doc_page_parts::failure::Memory;
 use doc_page_parts::heap::String;
 use doc_page_parts::text::Text;
@@ -15,6 +17,7 @@ use trial::answer::{no_call, two_texts};
 pub fn called(tools: Tools<'_>, name: &str, given: &str) -> Result<String, Memory> {
     match name {
         "html" => printed_made(tools.heap, rendered(tools, given)),
+        "html_by" => html_by(tools, given),
         "html_is" => is_html(tools, given),
         "html_of_runs" => html_of_runs(tools, given),
         "html_without_links" => printed_made(tools.heap, html_without_links(tools, given)),
@@ -24,6 +27,26 @@ pub fn called(tools: Tools<'_>, name: &str, given: &str) -> Result<String, Memor
 
 fn rendered(tools: Tools<'_>, text: &str) -> Result<Text, Memory> {
     render_plain(tools.heap, text, tools.entities)
+}
+
+/// `NAME TEXT`: the HTML of a text that is read with the extension of this name.
+fn html_by(tools: Tools<'_>, given: &str) -> Result<String, Memory> {
+    let Some((name, text)) = given.split_once(" ") else {
+        return no_call(tools.heap);
+    };
+    let entities = Entities::built_in().with_options(options_of(name));
+    let html = render_plain(tools.heap, text, &entities);
+    drop(entities);
+    printed_made(tools.heap, html)
+}
+
+fn options_of(name: &str) -> Options {
+    Options {
+        tables: name == "tables",
+        strikethrough: name == "strikethrough",
+        tasks: name == "tasks",
+        bare_links: name == "bare_links",
+    }
 }
 
 /// `TEXT | HTML`: whether this is the text's HTML, and else where they differ.

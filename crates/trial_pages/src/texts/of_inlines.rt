@@ -118,6 +118,7 @@ fn push_start(out: &mut String, span: &Span) -> Result<(), Memory> {
     match span {
         Span::Emphasis => push_enclosed(out, "<em>", "", ""),
         Span::Strong => push_enclosed(out, "<strong>", "", ""),
+        Span::Strike => push_enclosed(out, "<del>", "", ""),
         Span::Link(target) => push_target(out, "<a href=", target),
         Span::Image(target) => push_target(out, "<img src=", target),
     }
@@ -139,6 +140,7 @@ fn push_end(out: &mut String, span: &Span) -> Result<(), Memory> {
     let end = match span {
         Span::Emphasis => "</em>",
         Span::Strong => "</strong>",
+        Span::Strike => "</del>",
         Span::Link(_) => "</a>",
         Span::Image(_) => "</img>",
     };

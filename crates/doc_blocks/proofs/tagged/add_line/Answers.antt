@@ -9,6 +9,6 @@ use Rattle.doc_blocks.proofs.tagged.add_line.Goals as goal
 pub returns-then-not-first-clause-line : goal.returns-then-not-first-clause-line
 returns-then-not-first-clause-line c =
     let s = state_of c.args.builder.now in
-    let table = c.args.entities.now in
-    ap (λ (t : Text). after_line table s (cells_of t)) (c.requires.plain c.if-not-first.true)
-    ∙ (ap (λ (p : Position). after_line table s (left_of p)) (sym c.new.ensures) ∙ c.in_ok-add.ensures.line)
+    let rules = c.args.entities.now in
+    ap (λ (t : Text). after_line rules s (cells_of t)) (c.requires.plain c.if-not-first.true)
+    ∙ (ap (λ (p : Position). after_line rules s (left_of p)) (sym c.new.ensures) ∙ c.in_ok-add.ensures.line)

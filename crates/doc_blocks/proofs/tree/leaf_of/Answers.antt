@@ -1,9 +1,12 @@
 use Rattle.std.proofs.Common.{◌∙◌, ap, sym, chars, List, ℕ}
 use Rattle.doc_rules.specs.Forests.{◌▹◌}
-use Rattle.doc_rules.specs.Blocks.{Paragraph, Heading, IndentedCode, FencedCode, HtmlBlock}
+use Rattle.doc_rules.specs.Blocks.{Paragraph, Heading, IndentedCode, FencedCode, HtmlBlock, TableBlock, Task}
+use Rattle.std.specs.Prelude.{Option, option_map}
+use Rattle.doc_blocks_starts.specs.Tables.{lines_in, source_of}
 use Rattle.doc_blocks_starts.specs.Tags.{leaf_shown}
 use Rattle.doc_blocks_starts.specs.declared.tag.LeafBlock.{LeafBlock}
 use Rattle.doc_blocks.proofs.Forests.{behind_para, behind_heading, behind_code, behind_fence, behind_html, behind_break}
+use Rattle.doc_blocks.proofs.Forests.{behind_table, behind_task}
 use Rattle.doc_blocks.proofs.tree.leaf_of.Goals as goal
 
 pub returns-in_ok-copy_of-in-Para : goal.returns-in_ok-copy_of-in-Para
@@ -43,3 +46,24 @@ returns-in_ok-copy_of-in-Html c = λ before. behind_html c.in_ok-copy_of-in-Html
 pub returns-in-Break : goal.returns-in-Break
 unfolding leaf_shown
 returns-in-Break c = λ before. behind_break before ∙ sym (ap (λ (l : LeafBlock). before ▹ leaf_shown l) c.in-Break.is)
+
+pub returns-in_ok-rows_of-in-Table : goal.returns-in_ok-rows_of-in-Table
+unfolding leaf_shown
+returns-in_ok-rows_of-in-Table c =
+    let header = c.in_ok-copy_of-in-Table.field-0 in
+    let delimiters = c.in_ok-copy_of-in-Table-2.field-0 in
+    let rows = c.in_ok-rows_of-in-Table.field-0 in
+    λ before. behind_table header delimiters rows before
+    ∙ (ap (λ (t : List ℕ). before ▹ TableBlock (source_of (chars t) (chars delimiters) (lines_in (option_map chars rows))))
+    c.in_ok-copy_of-in-Table.ensures
+    ∙ (ap (λ (t : List ℕ). before ▹ TableBlock (source_of (chars c.in-Table.header.now) (chars t) (lines_in (option_map chars rows))))
+    c.in_ok-copy_of-in-Table-2.ensures
+    ∙ (ap (λ (t : Option (List ℕ)). before
+    ▹ TableBlock (source_of (chars c.in-Table.header.now) (chars c.in-Table.delimiters.now) (lines_in t))) c.in_ok-rows_of-in-Table.ensures
+    ∙ sym (ap (λ (l : LeafBlock). before ▹ leaf_shown l) c.in-Table.is))))
+
+pub returns-in_ok-copy_of-in-Task : goal.returns-in_ok-copy_of-in-Task
+unfolding leaf_shown
+returns-in_ok-copy_of-in-Task c = λ before. behind_task c.in-Task.done c.in_ok-copy_of-in-Task.field-0 before
+    ∙ (ap (λ (t : List ℕ). before ▹ Task c.in-Task.done (chars t)) c.in_ok-copy_of-in-Task.ensures
+    ∙ sym (ap (λ (l : LeafBlock). before ▹ leaf_shown l) c.in-Task.is))

@@ -16,60 +16,60 @@ returns-in_default c =
 
 pub returns-in-35 : goal.returns-in-35
 returns-in-35 c =
-    let table = c.args.entities.now in
+    let going_by = c.args.entities.now in
     let situation = situation_of c.args.situation in
     let line = left_of c.args.line.now in
-    c.heading_start.ensures ∙ at_front atx_begins (text_begins table situation line) _ _ _ 35 c.in-Some.ensures.characters c.in-35.is
-    (at_number_sign table situation line _)
+    c.heading_start.ensures ∙ at_front atx_begins (text_begins going_by situation line) _ _ _ 35 c.in-Some.ensures.characters c.in-35.is
+    (at_number_sign going_by situation line _)
 
 pub returns-in-96 : goal.returns-in-96
 returns-in-96 c =
-    let table = c.args.entities.now in
+    let going_by = c.args.entities.now in
     let situation = situation_of c.args.situation in
     let line = left_of c.args.line.now in
-    c.fence_start.ensures ∙ at_front (fence_begins line) (text_begins table situation line) _ _ _ c.in-Some.first
-    c.in-Some.ensures.characters refl (at_fence_sign table situation line c.in-Some.first _ c.in-96.is)
+    c.fence_start.ensures ∙ at_front (fence_begins line) (text_begins going_by situation line) _ _ _ c.in-Some.first
+    c.in-Some.ensures.characters refl (at_fence_sign going_by situation line c.in-Some.first _ c.in-96.is)
 
 pub returns-in-60 : goal.returns-in-60
 returns-in-60 c =
-    let table = c.args.entities.now in
+    let going_by = c.args.entities.now in
     let situation = situation_of c.args.situation in
     let line = left_of c.args.line.now in
-    c.html_block_start.ensures ∙ at_front (html_begins situation line) (text_begins table situation line) _ _ _ 60
-    c.in-Some.ensures.characters c.in-60.is (at_left_angle table situation line _)
+    c.html_block_start.ensures ∙ at_front (html_begins situation line) (text_begins going_by situation line) _ _ _ 60
+    c.in-Some.ensures.characters c.in-60.is (at_left_angle going_by situation line _)
 
 pub returns-in-61 : goal.returns-in-61
 returns-in-61 c =
-    let table = c.args.entities.now in
+    let going_by = c.args.entities.now in
     let situation = situation_of c.args.situation in
     let line = left_of c.args.line.now in
-    IfOk-weaker c.underline_start.result (λ start. start_of line start ≡ setext_begins table situation (chars c.args.text.now))
-    (λ start. start_of line start ≡ text_begins table situation line (chars c.args.text.now)) (λ start e. e
-    ∙ at_front (setext_begins table situation) (text_begins table situation line) _ _ _ 61 c.in-Some.ensures.characters c.in-61.is
-    (at_equals_sign table situation line _)) c.underline_start.ensures
+    IfOk-weaker c.underline_start.result (λ start. start_of line start ≡ setext_begins going_by situation (chars c.args.text.now))
+    (λ start. start_of line start ≡ text_begins going_by situation line (chars c.args.text.now)) (λ start e. e
+    ∙ at_front (setext_begins going_by situation) (text_begins going_by situation line) _ _ _ 61 c.in-Some.ensures.characters c.in-61.is
+    (at_equals_sign going_by situation line _)) c.underline_start.ensures
 
 pub returns-in-45 : goal.returns-in-45
 returns-in-45 c =
-    let table = c.args.entities.now in
+    let going_by = c.args.entities.now in
     let situation = situation_of c.args.situation in
     let line = left_of c.args.line.now in
-    IfOk-weaker c.hyphens_start.result (λ start. start_of line start ≡ or_else (setext_begins table situation (chars c.args.text.now))
-    (break_begins (chars c.args.text.now))) (λ start. start_of line start ≡ text_begins table situation line (chars c.args.text.now))
-    (λ start e. e ∙ at_front (λ text. or_else (setext_begins table situation text) (break_begins text)) (text_begins table situation line)
-    _ _ _ 45 c.in-Some.ensures.characters c.in-45.is (at_hyphen table situation line _))
+    IfOk-weaker c.hyphens_start.result (λ start. start_of line start ≡ or_else (setext_begins going_by situation (chars c.args.text.now))
+    (break_begins (chars c.args.text.now))) (λ start. start_of line start ≡ text_begins going_by situation line (chars c.args.text.now))
+    (λ start e. e ∙ at_front (λ text. or_else (setext_begins going_by situation text) (break_begins text)) (text_begins going_by situation line)
+    _ _ _ 45 c.in-Some.ensures.characters c.in-45.is (at_hyphen going_by situation line _))
     c.hyphens_start.ensures
 
 pub returns-in-42 : goal.returns-in-42
 returns-in-42 c =
-    let table = c.args.entities.now in
+    let going_by = c.args.entities.now in
     let situation = situation_of c.args.situation in
     let line = left_of c.args.line.now in
-    c.break_start.ensures ∙ at_front break_begins (text_begins table situation line) _ _ _ c.in-Some.first c.in-Some.ensures.characters
-    refl (at_break_sign table situation line c.in-Some.first _ c.in-42.is)
+    c.break_start.ensures ∙ at_front break_begins (text_begins going_by situation line) _ _ _ c.in-Some.first c.in-Some.ensures.characters
+    refl (at_break_sign going_by situation line c.in-Some.first _ c.in-42.is)
 
 pub returns-in_default-first : goal.returns-in_default-first
 returns-in_default-first c =
-    let table = c.args.entities.now in
+    let going_by = c.args.entities.now in
     let situation = situation_of c.args.situation in
     let line = left_of c.args.line.now in
     let a : (c.in-Some.first == 35) ≡ false = search rules in
@@ -82,5 +82,5 @@ returns-in_default-first c =
     let i : (c.in-Some.first == 95) ≡ false = search rules in
     let s : (c.in-Some.first == 32) ≡ false = search rules in
     let t : (c.in-Some.first == 9) ≡ false = search rules in
-    at_other table situation line c.in-Some.first _ a b d e f g h i (neither c.in-Some.first s t)
-    ∙ sym (ap (text_begins table situation line) c.in-Some.ensures.characters)
+    at_other going_by situation line c.in-Some.first _ a b d e f g h i (neither c.in-Some.first s t)
+    ∙ sym (ap (text_begins going_by situation line) c.in-Some.ensures.characters)

@@ -5,14 +5,14 @@ use Rattle.doc_inlines_emphasis.proofs.MarkLaws.{adds_none, adds_more}
 use Rattle.doc_inlines_emphasis.proofs.marks.push_delimiters.Goals as goal
 
 pub loop-init : goal.loop-init
-loop-init c = adds_none c.args.marks.now.items (delimiter c.args.star)
+loop-init c = adds_none c.args.marks.now.items (delimiter c.args.delimiter)
 
 pub loop-preserved : goal.loop-preserved
 loop-preserved c =
-    adds_more c.args.marks.now.items c.loop.marks.items c.push.new.self.items c.loop.counter (c.loop.counter + 1) (delimiter c.args.star) _
-    c.loop.invariant c.in_ok-push.ensures.items c.delimiter-text.ensures (omega arith)
+    adds_more c.args.marks.now.items c.loop.marks.items c.push.new.self.items c.loop.counter (c.loop.counter + 1) (delimiter c.args.delimiter) _
+    c.loop.invariant c.in_ok-push.ensures.items c.text-text.ensures (omega arith)
 
 pub returns : goal.returns
 returns c =
     let all : c.loop.counter ≡ c.args.length = omega arith in
-    subst (λ k. AddsEach c.args.marks.now.items c.loop.marks.items (replicate k (delimiter c.args.star))) all c.loop.invariant
+    subst (λ k. AddsEach c.args.marks.now.items c.loop.marks.items (replicate k (delimiter c.args.delimiter))) all c.loop.invariant

@@ -1,10 +1,11 @@
 use Rattle.std.proofs.Common.{false, sym, ◌∙◌, arith}
+use Rattle.doc_inlines_emphasis.specs.declared.delimiter.Delimiter.TheVariants.{Star}
 use Rattle.doc_inlines_emphasis.specs.declared.run.Run.{Run}
 use Rattle.doc_inlines_emphasis.proofs.NumberLaws.{search_missed, search_found, search_ended}
 use Rattle.doc_inlines_emphasis.proofs.openers.nearest.Goals as goal
 
 abbrev blank : Run
-blank = record { first = 0; left = 0; length = 0; star = false; opens = false; closes = false }
+blank = record { first = 0; left = 0; length = 0; delimiter = Star; opens = false; closes = false }
 
 pub loop-place-init : goal.loop-place-init
 loop-place-init c = record { within = omega arith; missed = λ place least less. absurd (omega arith) }

@@ -1,4 +1,5 @@
 use Rattle.std.proofs.Common.{◌≡◌, ◌+◌, ◌<◌, ◌≤◌, false, length, get_or, ap, sym, ◌∙◌, subst, arith}
+use Rattle.doc_inlines_emphasis.specs.declared.delimiter.Delimiter.TheVariants.{Star}
 use Rattle.doc_inlines_emphasis.specs.declared.run.Run.{Run}
 use Rattle.doc_inlines_emphasis.specs.RunSteps.{placed_shown, all_placed}
 use Rattle.doc_rules.specs.Inlines as rules
@@ -10,7 +11,7 @@ use Rattle.doc_inlines_emphasis.proofs.PairLaws.{stands_on}
 use Rattle.doc_inlines_emphasis.proofs.pair.pair.Goals as goal
 
 abbrev blank : Run
-blank = record { first = 0; left = 0; length = 0; star = false; opens = false; closes = false }
+blank = record { first = 0; left = 0; length = 0; delimiter = Star; opens = false; closes = false }
 
 pub overflow_sub-opens : goal.overflow_sub-opens
 overflow_sub-opens c =

@@ -1,5 +1,6 @@
 use Rattle.std.proofs.Common.{◌≡◌, false, length, get_or, ap, sym, ◌∙◌, subst, arith}
 use Rattle.doc_rules.specs.Inlines as rules
+use Rattle.doc_inlines_emphasis.specs.declared.delimiter.Delimiter.TheVariants.{Star}
 use Rattle.doc_inlines_emphasis.specs.declared.run.Run.{Run}
 use Rattle.doc_inlines_emphasis.specs.Steps.{GoesOn, GoesPast}
 use Rattle.doc_inlines_emphasis.proofs.NumberLaws.{run_is}
@@ -7,7 +8,7 @@ use Rattle.doc_inlines_emphasis.proofs.PassLaws.{goes_more, goes_long, past_empt
 use Rattle.doc_inlines_emphasis.proofs.pass.close.Goals as goal
 
 abbrev blank : Run
-blank = record { first = 0; left = 0; length = 0; star = false; opens = false; closes = false }
+blank = record { first = 0; left = 0; length = 0; delimiter = Star; opens = false; closes = false }
 
 pub returns-then-not-runs-number-clause-past : goal.returns-then-not-runs-number-clause-past
 returns-then-not-runs-number-clause-past c =

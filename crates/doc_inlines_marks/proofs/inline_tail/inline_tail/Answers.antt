@@ -5,8 +5,8 @@ use Rattle.doc_inlines_marks.proofs.TitleSteps.{no_destination}
 use Rattle.doc_inlines_marks.proofs.inline_tail.inline_tail.Goals as goal
 
 pub returns-in-None-clause-value : goal.returns-in-None-clause-value
-returns-in-None-clause-value c = λ table. c.closed.ensures.value table
-    ∙ no_destination table _ _ _ _ chars-nil c.in_ok-is.ensures c.spacing-start.ensures c.in-None.ensures
+returns-in-None-clause-value c = λ rules. c.closed.ensures.value rules
+    ∙ no_destination rules _ _ _ _ chars-nil c.in_ok-is.ensures c.spacing-start.ensures c.in-None.ensures
 
 pub returns-in-None-clause-end : goal.returns-in-None-clause-end
 returns-in-None-clause-end c = start_rest c.closed.result _ _ _ c.in_ok-is.ensures c.spacing-start.ensures c.closed.ensures.end

@@ -8,6 +8,6 @@ pub until-requires-clause-ascii : goal.until-requires-clause-ascii
 until-requires-clause-ascii c = λ b h. escapes_are_ascii b (sym h)
 
 pub returns : goal.returns
-returns c = λ is table.
-    plain_whole table _ _ (c.until.ensures.cut begins_escape (λ b t h. h) escapes_are_ascii)
+returns c = λ is rules.
+    plain_whole rules _ _ (c.until.ensures.cut begins_escape (λ b t h. h) escapes_are_ascii)
     (empty_chars _ (no_bytes c.until.result.now c.is_empty.result c.is_empty.ensures is))

@@ -1,14 +1,14 @@
 use Rattle.std.proofs.Common.{[]}
 use Rattle.std.proofs.lemmas.List.Elements.{All-nil, All-same}
-use Rattle.doc_server_config.specs.FolderPages.{IsPageOf}
+use Rattle.doc_server_config.specs.FolderPages.{IsFileOf}
 use Rattle.doc_server_config.proofs.folder_pages.read_folder.Goals as goal
 
-pub loop-file-init : goal.loop-file-init
-loop-file-init g c =
-    All-same (IsPageOf c.args.folder.now) c.new-pages.result.items [] c.new-pages.ensures.items (All-nil (IsPageOf c.args.folder.now))
+pub loop-name-init : goal.loop-name-init
+loop-name-init g c =
+    All-same (IsFileOf c.args.folder.now) c.new-files.result.items [] c.new-files.ensures.items (All-nil (IsFileOf c.args.folder.now))
 
-pub loop-file-preserved : goal.loop-file-preserved
-loop-file-preserved g c = c.in_ok-add_file.ensures c.loop-file.invariant
+pub loop-name-preserved : goal.loop-name-preserved
+loop-name-preserved g c = c.in_ok-add_file.ensures c.loop-name.invariant
 
 pub returns : goal.returns
-returns g c = All-same (IsPageOf c.args.folder.now) c.new.result c.loop-file.pages.items c.new.ensures c.loop-file.invariant
+returns g c = All-same (IsFileOf c.args.folder.now) c.new.result c.loop-name.files.items c.new.ensures c.loop-name.invariant

@@ -41,10 +41,11 @@ returns-clause-line c =
     let s : State = record old { stack = stack_of g } in
     let depth = c.go_down-depth.result in
     let rest = left_of c.go_down-depth.new.line in
-    let table = c.args.entities.now in
+    let rules = c.args.entities.now in
     let n = state_of c.begin-2.new.self in
     let within : depth ≤ length s.stack.outer = omega (arith, length_stack g) in
     let no = c.in_ok-is_taken.ensures.no c.if-branch.false in
-    let R : State → Type 0 = λ t. reached depth t (start_step (100 - depth) table (met depth t) rest (below depth t)) ≡ shown n in
-    leaves.line_begins table (left_of c.args.line.now) rest depth old s n c.go_down-depth.ensures.goes refl refl within (λ e. no.1)
+    let R : State → Type 0 = λ t. reached depth t (start_step (100 - depth) rules (met c.args.entities.now depth t) rest
+    (below depth t)) ≡ shown n in
+    leaves.line_begins rules (left_of c.args.line.now) rest depth old s n c.go_down-depth.ensures.goes refl refl within (λ e. no.1)
     (subst R no.0 c.in_ok-begin-2.ensures.reached)

@@ -37,4 +37,5 @@ returns-clause-sound c =
           ∙ (c.turn.ensures.runs ∙ c.in_ok-wrap.ensures.runs));
       dead = dead_within _ _ _ _ c.requires.sound.dead c.dead_behind-self.ensures.image (λ e. c.dead_behind-self.ensures.link e
           ∙ ap length c.as_slice.ensures.value);
+      images = c.requires.sound.images;
     }

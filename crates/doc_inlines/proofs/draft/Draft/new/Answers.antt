@@ -1,4 +1,5 @@
 use Rattle.doc_inlines.proofs.DraftLaws.{nothing_made, nothing_open}
+use Rattle.doc_inlines.proofs.LiveLaws.{none_tell}
 use Rattle.std.proofs.Common.{arith}
 use Rattle.doc_inlines.proofs.draft.Draft.new.Goals as goal
 
@@ -10,4 +11,5 @@ returns-clause-sound c = record {
   marks = c.new.ensures.sound;
   brackets = nothing_open _ _ _ c.new.ensures.items c.new.ensures.runs c.new-2.ensures.items;
   dead = omega arith;
+  images = none_tell c.new-2.result.items c.new-2.ensures.items;
 }

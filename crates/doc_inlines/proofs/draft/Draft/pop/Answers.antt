@@ -1,5 +1,6 @@
 use Rattle.std.proofs.Common.{refl, ap, ◌∙◌, length, min, ◌||◌, nat_le}
 use Rattle.doc_inlines.proofs.ClosingLaws.{popped_live, popped_text, popped_stood, popped_open, popped_dead}
+use Rattle.doc_inlines.proofs.LiveLaws.{images_left}
 use Rattle.doc_inlines.proofs.draft.Draft.pop.Goals as goal
 
 pub returns : goal.returns
@@ -14,5 +15,5 @@ returns c =
       last = popped_live _ _ _ _ _ _ _ _ e new live;
       text = popped_text _ _ _ _ _ _ e c.requires.brackets;
       stood = popped_stood _ _ _ _ _ e c.requires.brackets;
-      sound = record { marks = c.requires.marks; brackets = popped_open _ _ _ _ _ e c.requires.brackets; dead = popped_dead _ _ _ new };
+      sound = record { marks = c.requires.marks; brackets = popped_open _ _ _ _ _ e c.requires.brackets; dead = popped_dead _ _ _ new; images = images_left _ _ _ e c.requires.images };
     }

@@ -9,4 +9,5 @@ returns-clause-sound c = record {
   marks = c.in_ok-push.ensures.sound;
   brackets = put_open _ _ _ _ _ _ c.requires.brackets c.in_ok-push.ensures.items c.in_ok-push.ensures.runs;
   dead = c.requires.dead;
+  images = c.requires.images;
 }

@@ -8,10 +8,11 @@ returns-clause-made c = λ n d r.
 
 pub returns-clause-sound : goal.returns-clause-sound
 returns-clause-sound c =
-    let r = run_of _ c.requires.text in
+    let r = run_of _ _ c.requires.text in
     record {
       marks = c.in_ok-push_run.ensures.sound;
       brackets = run_open _ _ _ _ _ _ _ _ _ _ c.requires.sound.brackets r c.in_ok-push_run.ensures.items
           (c.in_ok-push_run.ensures.runs _ _ r.same) c.in_ok-push_run.ensures.sound;
       dead = c.requires.sound.dead;
+      images = c.requires.sound.images;
     }

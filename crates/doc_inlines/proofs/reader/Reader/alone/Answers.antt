@@ -11,11 +11,11 @@ pub put-requires-clause-stands : goal.put-requires-clause-stands
 put-requires-clause-stands c = alone_stands c.args.c _ _ _ c.requires.first c.front-own.ensures.value
 
 pub returns : goal.returns
-returns c = λ table targets reads.
+returns c = λ rules targets reads.
     let p = c.in_ok-put.ensures in
-    goes_on table targets c.args.self.now c.put.new.self c.args.c (chars c.args.behind.now) (chars c.args.behind.now)
+    goes_on rules targets c.args.self.now c.put.new.self c.args.c (chars c.args.behind.now) (chars c.args.behind.now)
     (Literal c.args.c ∷ state_made c.args.self.now) c.requires.sound p.sound p.text (ap (λ t. chars t.now) p.rest)
     c.requires.first (all_behind (chars c.args.behind.now))
-    (subst (λ n. ReadsAs table targets c.args.self.now c.args.c (chars c.args.behind.now) (Literal c.args.c ∷ state_made c.args.self.now)
+    (subst (λ n. ReadsAs rules targets c.args.self.now c.args.c (chars c.args.behind.now) (Literal c.args.c ∷ state_made c.args.self.now)
     n) (sym (nothing_taken (chars c.args.behind.now))) reads)
     (alone_made c.args.c _ _ _ _ _ c.requires.first c.front-own.ensures.value p.made)

@@ -35,29 +35,29 @@ pass-requires-clause-uncut c =
     ticks_uncut _ _ _ c.requires.first found
 
 pub returns-in_ok-put-in-Some : goal.returns-in_ok-put-in-Some
-returns-in_ok-put-in-Some c = λ table targets.
+returns-in_ok-put-in-Some c = λ rules targets.
     let h = c.requires.sound in
     let p = c.in_ok-put-in-Some.ensures in
     let found = span_found _ c.in_ok-found.next c.in-Some.code _ c.in-Some.is
     (c.in_ok-found.ensures.value (chars c.args.self.now.text.now) h.backticks
     (behind_in_whole _ _ _ _ _ h.plain h.rest c.requires.first)) in
-    goes_on table targets c.args.self.now c.put.new.self 96 (chars c.args.behind.now) (chars c.in_ok-found.next.now)
+    goes_on rules targets c.args.self.now c.put.new.self 96 (chars c.args.behind.now) (chars c.in_ok-found.next.now)
     (Code (chars c.in-Some.code.now) ∷ state_made c.args.self.now) h p.sound p.text
     (ap (λ t. chars t.now) p.rest) c.requires.first c.in_ok-found.ensures.end
-    (λ definitions e. backtick_reads table definitions _ _ (chars c.args.behind.now)
+    (λ definitions e. backtick_reads rules definitions _ _ (chars c.args.behind.now)
     (Some (chars c.in-Some.code.now), chars c.in_ok-found.next.now) found)
     (code_made c.in-Some.code _ _ p.made)
 
 pub returns-in-None : goal.returns-in-None
-returns-in-None c = λ table targets.
+returns-in-None c = λ rules targets.
     let h = c.requires.sound in
     let p = c.pass.ensures in
     let found = run_found _ c.in_ok-found.next _ c.in-None.is
     (c.in_ok-found.ensures.value (chars c.args.self.now.text.now) h.backticks
     (behind_in_whole _ _ _ _ _ h.plain h.rest c.requires.first)) in
     let n = length (chars c.args.behind.now) - length (chars c.in_ok-found.next.now) in
-    goes_on table targets c.args.self.now c.pass.new.self 96 (chars c.args.behind.now) (chars c.in_ok-found.next.now)
+    goes_on rules targets c.args.self.now c.pass.new.self 96 (chars c.args.behind.now) (chars c.in_ok-found.next.now)
     (replicate (suc n) (Literal 96) ++ state_made c.args.self.now) h p.sound p.text
     (ap (λ t. chars t.now) p.rest) c.requires.first c.in_ok-found.ensures.end
-    (λ definitions e. backtick_reads table definitions _ _ (chars c.args.behind.now) (None, chars c.in_ok-found.next.now) found)
+    (λ definitions e. backtick_reads rules definitions _ _ (chars c.args.behind.now) (None, chars c.in_ok-found.next.now) found)
     (ticks_made _ _ _ _ _ c.requires.first found p.made)

@@ -16,18 +16,18 @@ front-requires c = is_rest_again _ _ _ c.requires.sound.rest c.requires.sound.pl
 
 pub put_run-requires-clause-text : goal.put_run-requires-clause-text
 put_run-requires-clause-text c =
-    run_text _ _ _ c.requires.delimiter (run_taken _ _ _ _ _ c.requires.first c.behind_run-next.ensures.value c.front-run.ensures.value)
+    run_text _ c.args.own _ _ c.requires.delimiter (run_taken _ _ _ _ _ c.requires.first c.behind_run-next.ensures.value c.front-run.ensures.value)
 
 pub returns : goal.returns
-returns c = λ table targets.
+returns c = λ rules targets read.
     let p = c.in_ok-put_run.ensures in
     let n = run_length c.args.c (chars c.args.behind.now) in
     let found = c.behind_run-next.ensures.value in
-    goes_on table targets c.args.self.now c.put_run.new.self c.args.c (chars c.args.behind.now) (chars c.behind_run-next.result.now)
+    goes_on rules targets c.args.self.now c.put_run.new.self c.args.c (chars c.args.behind.now) (chars c.behind_run-next.result.now)
     (Delimiters (record { char = c.args.c; left = suc n; length = suc n; opens = c.opens-opens.result; closes = c.closes-closes.result }) ∷
     state_made c.args.self.now) c.requires.sound p.sound p.text
     (ap (λ t. chars t.now) p.rest) c.requires.first c.behind_run-next.ensures.end
     (λ definitions e.
-    run_reads table definitions c.args.c _ _ _ _ _ _ _ _ c.requires.delimiter found (c.last_or_line-last.ensures
+    run_reads rules definitions c.args.c _ _ _ _ _ _ _ _ read found (c.last_or_line-last.ensures
     ∙ ap (last_or 10) c.front.ensures.value) c.first_or_line-first.ensures c.opens-opens.ensures c.closes-closes.ensures)
     (p.made n c.args.c (run_taken _ _ _ _ _ c.requires.first found c.front-run.ensures.value))

@@ -20,22 +20,22 @@ alone-requires-clause-sound c =
     (is_rest_again _ _ _ h.rest h.plain))
 
 pub returns-in_ok-put_enclosed-in-Some : goal.returns-in_ok-put_enclosed-in-Some
-returns-in_ok-put_enclosed-in-Some c = λ table targets.
+returns-in_ok-put_enclosed-in-Some c = λ rules targets.
     let h = c.requires.sound in
     let p = c.in_ok-put_enclosed-in-Some.ensures in
     let found = angle_found _ _ (Some (enclosing_of c.in-Some.found, chars c.in-Some.next.now)) c.requires.first
     (c.in-Some.ensures.value (chars c.args.self.now.text.now) h.missing (is_rest_again _ _ _ h.rest h.plain)) in
-    goes_on table targets c.args.self.now c.put_enclosed.new.self 60 (chars c.args.behind.now) (chars c.in-Some.next.now)
+    goes_on rules targets c.args.self.now c.put_enclosed.new.self 60 (chars c.args.behind.now) (chars c.in-Some.next.now)
     (enclosed_read (state_made c.args.self.now) (enclosing_of c.in-Some.found)) h p.sound p.text
     (ap (λ t. chars t.now) p.rest) c.requires.first (enclosed_end _ _ _ found)
-    (λ definitions e. angle_reads table definitions _ _ (chars c.args.behind.now)
+    (λ definitions e. angle_reads rules definitions _ _ (chars c.args.behind.now)
     (Some (enclosing_of c.in-Some.found, chars c.in-Some.next.now)) found)
     p.made
 
 pub returns-in_ok-alone-in-None : goal.returns-in_ok-alone-in-None
-returns-in_ok-alone-in-None c = λ table targets.
+returns-in_ok-alone-in-None c = λ rules targets.
     let h = c.requires.sound in
     let found = angle_found _ _ None c.requires.first (c.in-None.ensures.value (chars c.args.self.now.text.now) h.missing
     (is_rest_again _ _ _ h.rest h.plain)) in
-    moved_on table targets c.args.self.now c.alone.new.self c.enclosed.new.self
-    (c.in_ok-alone-in-None.ensures table targets (λ definitions e. angle_reads table definitions _ _ (chars c.args.behind.now) None found))
+    moved_on rules targets c.args.self.now c.alone.new.self c.enclosed.new.self
+    (c.in_ok-alone-in-None.ensures rules targets (λ definitions e. angle_reads rules definitions _ _ (chars c.args.behind.now) None found))

@@ -3,12 +3,12 @@ use Rattle.doc_inlines.proofs.ItemLaws.{no_longer_then_shorter}
 use Rattle.doc_inlines.proofs.reader.Reader.read_items.Goals as goal
 
 pub items-smaller : goal.items-smaller
-items-smaller c = no_longer_then_shorter _ _ _ (c.skip_plain.ensures c.args.entities.now c.args.refs.now).no_longer
+items-smaller c = no_longer_then_shorter _ _ _ (c.skip_plain.ensures c.args.refs.now).no_longer
     c.in_ok-item.ensures.shorter
 
 pub items-preserved : goal.items-preserved
 items-preserved c =
-    let plain = c.skip_plain.ensures c.args.entities.now c.args.refs.now in
+    let plain = c.skip_plain.ensures c.args.refs.now in
     let item = c.in_ok-item.ensures in
     record {
       sound = plain.sound;

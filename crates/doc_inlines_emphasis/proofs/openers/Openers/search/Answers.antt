@@ -3,12 +3,13 @@ use Rattle.doc_rules.specs.Inlines as rules
 use Rattle.doc_inlines_emphasis.specs.Openers.{AreBounds, Ascend, StandBefore}
 use Rattle.doc_inlines_emphasis.specs.NumberSteps.{run_numbered}
 use Rattle.doc_inlines_emphasis.specs.RunSteps.{all_placed}
+use Rattle.doc_inlines_emphasis.specs.declared.delimiter.Delimiter.TheVariants.{Star}
 use Rattle.doc_inlines_emphasis.specs.declared.run.Run.{Run}
 use Rattle.doc_inlines_emphasis.proofs.NumberLaws.{run_is, nearest_told, stand_within, search_failed}
 use Rattle.doc_inlines_emphasis.proofs.openers.Openers.search.Goals as goal
 
 abbrev blank : Run
-blank = record { first = 0; left = 0; length = 0; star = false; opens = false; closes = false }
+blank = record { first = 0; left = 0; length = 0; delimiter = Star; opens = false; closes = false }
 
 pub nearest-requires-clause-bounded : goal.nearest-requires-clause-bounded
 nearest-requires-clause-bounded c =

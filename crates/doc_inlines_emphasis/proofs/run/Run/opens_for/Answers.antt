@@ -1,6 +1,6 @@
 use Rattle.std.proofs.Common.{arith, ◌%◌, ◌<◌}
 use Rattle.std.proofs.Math.Nat.{mod-lt}
-use Rattle.doc_inlines_emphasis.proofs.RunLaws.{matches_is}
+use Rattle.doc_inlines_emphasis.proofs.RunLaws.{matches_told}
 use Rattle.doc_inlines_emphasis.proofs.run.Run.opens_for.Goals as goal
 
 pub overflow_add-sum : goal.overflow_add-sum
@@ -10,4 +10,5 @@ overflow_add-sum c =
     omega arith
 
 pub returns : goal.returns
-returns c = matches_is c.args.self c.args.closer
+returns c =
+    matches_told c.args.self c.args.closer _ _ _ c.first_kind.ensures c.first_kind-2.ensures c.is_tilde.ensures

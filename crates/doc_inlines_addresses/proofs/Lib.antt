@@ -1,0 +1,3 @@
+pub mod HostLaws
+pub mod EndLaws
+pub mod FoundLaws

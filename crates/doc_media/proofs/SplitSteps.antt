@@ -1,0 +1,71 @@
+-- A text that is cut at the last of a byte.
+use Rattle.std.proofs.Common.{◌≡◌, ℕ, zero, suc, ◌+◌, ◌-◌, ◌≤◌, ◌<◌, ◌==◌, List, length, get_or, take, drop, Bool, true, false, Some, None}
+use Rattle.std.proofs.Common.{MatchOption, refl, sym, ap, ◌∙◌, ⊎_elim, arith, Bor, eq-eqb, ne_eqb, length-drop, get_or-drop}
+use Rattle.std.specs.Prelude.{Option, option_map}
+use Rattle.std.specs.Path.{rfind_below, rsplit_once}
+use Rattle.std.specs.Str.Pattern.{RFindsChar}
+use Rattle.std.proofs.lemmas.Bool.{cases_eq, cond-true, cond-false}
+use Rattle.std.proofs.lemmas.Str.{len_utf8_ascii}
+use Rattle.std.proofs.lemmas.Str.Pattern.{NoCharPasses-char}
+use Rattle.doc_media.specs.Kinds.{behind_point, behind_slash, extension_of, last_part}
+
+not_found : (c : ℕ) (text : List ℕ) (n : ℕ) → ((i : ℕ) → i < n → get_or text i 0 ≡ c → ⊥) → rfind_below c text n ≡ None
+not_found c text zero h = refl
+not_found c text (suc n) h = cond-false _ _ _ (ne_eqb _ c (h n (omega arith))) ∙ not_found c text n (λ i l. h i (omega arith))
+
+found_last : (c : ℕ) (text : List ℕ) (k n : ℕ) → k < n → get_or text k 0 ≡ c → ((i : ℕ) → k < i → i < n → get_or text i 0 ≡ c → ⊥)
+    → rfind_below c text n ≡ Some k
+found_last c text k zero l at h = absurd (omega arith)
+found_last c text k (suc n) l at h =
+    ⊎_elim
+    (λ e. cond-true _ _ _ (eq-eqb _ c (ap (λ j. get_or text j 0) (sym e) ∙ at)) ∙ ap (λ j. Some j) (sym e))
+    (λ other. cond-false _ _ _ (ne_eqb _ c (h n (omega arith) (omega arith)))
+    ∙ found_last c text k n (omega arith) at (λ i a b. h i a (omega arith)))
+    (cases_eq k n)
+
+-- what the call that cuts a text at the last of a character of one byte gives
+pub cut_at_last : (c : ℕ) (text : List ℕ) (r : Option (Bor (List ℕ) × Bor (List ℕ)))
+    → MatchOption r (RFindsChar c text None) (λ x. (i : ℕ) × (j : ℕ) × RFindsChar c text (Some (i, j)) × (x.0.now ≡ take i text)
+    × (x.1.now ≡ drop j text) × (i ≤ j) × (length x.0.now ≡ i) × (length x.1.now + j ≡ length text))
+    → c < 128 → option_map (λ x. (x.0.now, x.1.now)) r ≡ rsplit_once c text
+unfolding rsplit_once
+cut_at_last c text None h low =
+    sym (ap (option_map (λ i. (take i text, drop (i + 1) text))) (not_found c text (length text) (λ i. NoCharPasses-char c text i h low)))
+cut_at_last c text (Some x) h low =
+    let i = h.0 in
+    let j = h.1 in
+    let next : j ≡ i + 1 = omega (arith, h.2.1.ends, len_utf8_ascii c low) in
+    let later : (k : ℕ) → i < k → k < length text → get_or text k 0 ≡ c → ⊥ = λ k a l e.
+    let back : j + (k - j) ≡ k = omega arith in
+    NoCharPasses-char c (drop j text) (k - j) h.2.0 low (omega (arith, length-drop j text))
+    (get_or-drop j text (k - j) 0 ∙ ap (λ n. get_or text n 0) back ∙ e) in
+    let found = found_last c text i (length text) (omega (arith, h.7)) (h.2.1.byte low) later in
+    let second = h.4 ∙ ap (λ n. drop n text) next in
+    (λ t. Some (h.3 t, second t)) ∙ sym (ap (option_map (λ k. (take k text, drop (k + 1) text))) found)
+
+-- the two texts of a cut
+abbrev pub texts_of_cut : Option (Bor (List ℕ) × Bor (List ℕ)) → Option (List ℕ × List ℕ)
+texts_of_cut cut = option_map (λ x. (x.0.now, x.1.now)) cut
+
+pub part_found : (path : List ℕ) (r : Option (Bor (List ℕ) × Bor (List ℕ))) → texts_of_cut r ≡ rsplit_once 47 path
+    → (front part : Bor (List ℕ)) → r ≡ Some (front, part) → part.now ≡ last_part path
+part_found path r split front part is =
+    ap (λ cut. behind_slash path (texts_of_cut cut)) (sym is) ∙ ap (behind_slash path) split
+
+pub part_is_all : (path : List ℕ) (r : Option (Bor (List ℕ) × Bor (List ℕ))) → texts_of_cut r ≡ rsplit_once 47 path
+    → r ≡ None → path ≡ last_part path
+part_is_all path r split is =
+    ap (λ cut. behind_slash path (texts_of_cut cut)) (sym is) ∙ ap (behind_slash path) split
+
+-- the extension of a path, from the cut of its last part
+pub extension_is : (path part : List ℕ) (r : Option (Bor (List ℕ) × Bor (List ℕ))) → part ≡ last_part path
+    → texts_of_cut r ≡ rsplit_once 46 part → behind_point (texts_of_cut r) ≡ extension_of path
+extension_is path part r is split = ap behind_point split ∙ ap (λ p. behind_point (rsplit_once 46 p)) is
+
+pub point_leads : (name extension : List ℕ) (empty : Bool) → empty ≡ (length name == 0) → empty ≡ false
+    → Some extension ≡ behind_point (Some (name, extension))
+point_leads name extension empty tested is = sym (cond-false _ _ _ (sym tested ∙ is))
+
+pub point_leads_not : (name extension : List ℕ) (empty : Bool) → empty ≡ (length name == 0) → empty ≡ true
+    → None ≡ behind_point (Some (name, extension))
+point_leads_not name extension empty tested is = sym (cond-true _ _ _ (sym tested ∙ is))

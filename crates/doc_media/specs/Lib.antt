@@ -1,0 +1,4 @@
+pub mod Held
+pub mod Kinds
+pub mod Laws
+pub mod Media

@@ -1,0 +1,4 @@
+pub mod CellSteps
+pub mod ColumnSteps
+pub mod Laws
+pub mod LineSteps

@@ -1,0 +1,115 @@
+//! The pages of a configuration's folders.
+
+ghost use Rattle.std.specs.Prelude.{◌≡◌};
+ghost use Rattle.docs_server.specs.Listening.{row_of};
+
+use crate::listen_fault::ListenFault;
+use doc_page_parts::failure::Memory;
+use doc_page_parts::heap::{Heap, Vec};
+use doc_page_parts::list::List;
+use doc_page_parts::path::Path;
+use doc_server_config::bad_file::BadFile;
+use doc_server_config::folder::Folder;
+use doc_server_config::folder_pages::{FolderFile, FolderPage, read_folder};
+use doc_server_config::folder_rules::FolderRules;
+use doc_server_config::page_row::{PageRow, Source};
+use doc_server_config::readme::{Move, index_move};
+use doc_server_config::taken::Taken;
+use std::rt::Files;
+
+/// What the folders of a configuration hold.
+#[derive(Drop)]
+pub struct FolderRows {
+    pub rows: Vec<PageRow>,
+    /// The moves of their READMEs, where the folders ask for that.
+    pub moves: Vec<Move>,
+    pub bad: Vec<BadFile>,
+}
+
+/// The pages of folders, beside those of the configuration's rows. `Bad` is the first bad file of a folder that doesn't pass over such,
+/// unless all are asked for.
+pub fn read_folders<R: AllocGlobal + Files + Clone + Drop>(
+    rt: &R,
+    heap: Heap,
+    rows: &[PageRow],
+    folders: &[Folder],
+    all: bool,
+) -> Result<FolderRows, ListenFault> {
+    let mut taken = Taken::beside(heap, rows)?;
+    let mut found = FolderRows {
+        rows: Vec::new(heap),
+        moves: Vec::new(heap),
+        bad: Vec::new(heap),
+    };
+    for folder in folders {
+        let files = read_folder(rt, heap, folder, &mut taken)?;
+        let skips = all || folder.rules.skips;
+        let rules = FolderRules {
+            skips,
+            ..folder.rules
+        };
+        add_files(heap, &mut found, files, rules)?;
+    }
+    Ok(found)
+}
+
+/// Adds the files of a folder.
+fn add_files(
+    heap: Heap,
+    found: &mut FolderRows,
+    files: List<FolderFile>,
+    rules: FolderRules,
+) -> Result<(), ListenFault> {
+    for file in files.into_inner() {
+        add_file(heap, found, file, rules)?;
+    }
+    Ok(())
+}
+
+/// Adds a file. A bad one stops the program, unless such are passed over.
+fn add_file(
+    heap: Heap,
+    found: &mut FolderRows,
+    file: FolderFile,
+    rules: FolderRules,
+) -> Result<(), ListenFault> {
+    match file {
+        FolderFile::Page(page) => Ok(add_page(heap, found, page, rules.readme)?),
+        FolderFile::Bad(bad) if rules.skips => Ok(found.bad.push(bad).map_err(Memory::from)?),
+        FolderFile::Bad(bad) => Err(ListenFault::Bad(bad)),
+    }
+}
+
+/// Adds a page, and its move where it is a README.
+fn add_page(
+    heap: Heap,
+    found: &mut FolderRows,
+    page: FolderPage,
+    readme: bool,
+) -> Result<(), Memory> {
+    if readme {
+        add_move(heap, &mut found.moves, &page.path)?;
+    }
+    found.rows.push(row_of(page))?;
+    Ok(())
+}
+
+/// Adds the move of a page, where it is a README.
+fn add_move(heap: Heap, moves: &mut Vec<Move>, path: &Path) -> Result<(), Memory> {
+    if let Some(one) = index_move(heap, path)? {
+        moves.push(one)?;
+    }
+    Ok(())
+}
+
+/// A page of a folder, as one of the configuration.
+fn row_of(page: FolderPage) -> PageRow
+    ensures { result ≡ row_of page }
+{
+    let FolderPage { path, groups, text } = page;
+    PageRow {
+        path,
+        groups,
+        source: Source::Text(text),
+    }
+}
