@@ -15,7 +15,8 @@ scene = Scene(seconds=200)
 PAGE = '[[page]]\npath = "a.md"\n'
 SITES = {"good": 'text = "A"\n', "absent": 'file = "absent.md"\n', "long": 'file = "long.md"\n',
          "bounds": 'text = "A"\n[listen]\nconnections = 0\n', "folder": 'text = "A"\n[[folder]]\npath = "nowhere"\n',
-         "twice": 'text = "A"\n[[folder]]\npath = "pages"\n', "except": 'text = "A"\n[[folder]]\npath = "pages"\nexcept = ["b/"]\n',
+         "twice": 'text = "A"\n[[folder]]\npath = "pages"\n', "bad": 'text = "A"\n[[folder]]\npath = "bad"\n',
+         "on_bad": 'text = "A"\n[[folder]]\npath = "bad"\nnames = "nfc"\nreadme = true\non_bad = true\n', "except": 'text = "A"\n[[folder]]\npath = "pages"\nexcept = ["b/"]\n',
          "both": 'file = "absent.md"\n[listen]\nidle_seconds = -1\n'}
 DIFFER = {"good": [b"put b.md - B\n"], "no_edit": [b"put b.md - B\n", b"connect\n"], "refused": [b"remove b.md\n", b"move b.md c.md\n"],
           "long_path": [b"put " + b"a" * 201 + b" - B\n"], "empty_line": [b"\n"], "no_text": [b"put b.md -\n"],
@@ -24,7 +25,8 @@ USAGES = (["listen"], ["listen", "good.toml"], ["listen", "good.toml", f"{HOST}:
           ["compact", "good.toml"], ["listen", "good.toml", f"{HOST}:0", "good"],
           ["listen", "good.toml", f"{HOST}:0", "--Journal", "good"], ["compact", "good.toml", "good"],
           ["listen", "good.toml", f"{HOST}:0", "--journal", "good", "x"], ["compact", "good.toml", "--journal"],
-          ["compact", "good.toml", "--journal", "good", "x"], ["compact", "good.toml", "--log", "good"])
+          ["compact", "good.toml", "--journal", "good", "x"], ["compact", "good.toml", "--log", "good"], ["folders"],
+          ["folders", "good.toml", "x"])
 NEW = "docs_server: new journal kept\n"
 MOVED = "docs_server: journal moved\n"
 NO_ADDRESSES = ("", HOST, "localhost:80", ":80", f"{HOST}:", f"{HOST}:65536", "256.0.0.1:80", "::1:80")
@@ -51,6 +53,8 @@ def files():
         put(f"{name}.toml", OWNER + PAGE + text)
     put("no.toml", "x =\n")
     put("pages/a.md", "A\n")
+    for name in ("a.md", "b%.md", "b?.md"):
+        put("bad/" + name, "A\n")
     put("long.md", "a" * 1_048_577)
     for name, texts in DIFFER.items():
         put(name, written(texts))
@@ -80,7 +84,14 @@ class Later:
 
     def sites(self):
         """The configuration, the files that it names, its folders; then the journal."""
+        for config, line in (("nowhere.toml", "cannot read nowhere.toml"), ("no.toml", "config"), ("absent.toml", "cannot read absent.md"),
+                             ("both.toml", "config: `idle_seconds` is bad"), ("folder.toml", "cannot read nowhere"),
+                             ("on_bad.toml", "config: folder 1: `on_bad` is bad")):
+            stops(["folders", config], line, stdout=self.full)
+        stops(["folders", "bad.toml"], "cannot write", stdout=self.full)
         for journal in ("good", "damaged"):
+            self.both("bad.toml", journal, "cannot read bad/b%.md: a path has no \\, %, ? or #")
+            self.both("on_bad.toml", journal, "config: folder 1: `on_bad` is bad")
             self.both("nowhere.toml", journal, "cannot read nowhere.toml")
             self.both("no.toml", journal, "config")
             self.both("bounds.toml", journal, "config: `connections` is bad")

@@ -1,6 +1,7 @@
-"""A site whose pages are files of a folder (`[[folder]]`, which `listen` and `compact` alone read): which files are pages and who sees
-them, that an edit in the journal wins over the file at the next start and a file without an edit is read anew, that a removal stays where
-its file is gone, which folders are passed over, and which files, paths and bounds are refused, by name.
+"""A site whose pages are files of a folder (`[[folder]]`, which `listen`, `compact` and `folders` alone read): which files are pages and
+who sees them, that an edit in the journal wins over the file at the next start and a file without an edit is read anew, that a removal
+stays where its file is gone, which folders are passed over, names in normalization form C, READMEs as indexes, and which files, paths and
+bounds are refused, by name and with their reason, or passed over.
 
     python3 scripts/listen/folders.py PROGRAM
 
@@ -140,18 +141,131 @@ def twice():
 
 # ---- what is refused, and where it isn't read
 
+LONG = "more than 1048576 bytes"
+CHARACTER = "a path has no \\, %, ? or #"
+# files of a folder, each with the name that is told and the reason
+BAD = (("long.md", b"a" * 1_048_577, "long.md", LONG), ("latin.md", b"\xff\n", "latin.md", "not UTF-8"),
+       ("a%b.md", b"x\n", "a%b.md", CHARACTER), ("FAQ?.md", b"x\n", "FAQ?.md", CHARACTER), ("a#b.md", b"x\n", "a#b.md", CHARACTER),
+       ("a\\b.md", b"x\n", "a\\b.md", CHARACTER), ("?\n.md", b"\xff", "?%0A.md", CHARACTER),
+       ("a\tb.md", b"x\n", "a%09b.md", "a path has no control character"),
+       ("\x7f.md", b"x\n", "%7F.md", "a path has no control character"),
+       ("a\u0085b\u00fc.md", b"x\n", "a%C2%85b\u00fc.md", "a path has no control character"),
+       ("p/" * 15 + "a.md", b"x\n", "p/" * 15 + "a.md", "a path has at most 16 parts"),
+       ("n" * 189 + ".md", b"x\n", "n" * 189 + ".md", "a path has at most 200 bytes"))
+# the longest of each
+GOOD = (("long.md", b"a" * 1_048_576), ("p/" * 14 + "a.md", b"x\n"), ("n" * 188 + ".md", b"x\n"), ("\u00a0.md", b"x\n"))
+
+
+def told(name, lines, status=None):
+    """What `folders` prints, and its status: 1 where a file is bad."""
+    done = subprocess.run([scene.program, "folders", "site.toml"], capture_output=True, timeout=60)
+    wanted = (int(len(lines) > 1) if status is None else status, "".join(line + "\n" for line in lines).encode(), b"")
+    scene.check(f"folders: {name}", (done.returncode, done.stdout, done.stderr) == wanted, done)
+
+
+def passes(name, lines):
+    """It starts, and these files are passed over. Answers the server."""
+    server = scene.listen("site.toml")
+    said = server.said()
+    scene.check(name, said == "".join(f"docs_server: passed over {line}\n" for line in lines), said)
+    return server
+
+
 def bad_files():
-    for name, file, content in (("a text too long", "long.md", b"a" * 1_048_577), ("a text that isn't UTF-8", "latin.md", b"\xff\n"),
-                                ("a name that is no path", "a%b.md", b"x\n"), ("a name too long", "n" * 200 + ".md", b"x\n")):
+    shutil.rmtree("all", ignore_errors=True)
+    for file, content, name, reason in BAD:
         shutil.rmtree("bad", ignore_errors=True)
         put("bad/c.md", "Good.\n")
+        for folder in ("bad", "all"):
+            put(f"{folder}/{file}", content)
+        config(FOLDER.format("bad"))
+        refused(name, f"docs_server: cannot read bad/{name}: {reason}\n")
+        told(name, [f"bad/{name}: {reason}", "1 pages, 0 media, 1 bad"])
+    for file, content in GOOD:
+        shutil.rmtree("bad", ignore_errors=True)
         put("bad/" + file, content)
         config(FOLDER.format("bad"))
-        refused(name, file)
+        told(file, ["1 pages, 0 media, 0 bad"])
+    lines = [f"all/{name}: {reason}" for file, _, name, reason in sorted(BAD, key=lambda row: row[0].encode())]
+    put("all/c.md", "Good.\n")
+    config(FOLDER.format("all"))
+    refused("the first in the order of names", f"docs_server: cannot read {lines[0]}\n")
+    told("all bad files", lines + [f"1 pages, 0 media, {len(lines)} bad"])
+    config(FOLDER.format("all") + 'on_bad = "skip"\n')
+    server = passes("bad files are passed over", lines)
+    shown(server, {"handbook/c.md": "Good."}, ["handbook/latin.md", "handbook/long.md"])
+    scene.check("it ends", server.end() == 0)
+    told("all bad files, passed over", lines + [f"1 pages, 0 media, {len(lines)} bad"])
+
+
+def bad_folders():
+    """The first folder that doesn't pass over a bad file stops the start."""
+    put("latin/x.md", b"\xff")
+    config(FOLDER.format("all") + 'on_bad = "skip"\n' + '[[folder]]\npath = "latin"\n')
+    refused("a folder behind one that passes over", "docs_server: cannot read latin/x.md: not UTF-8\n")
+    if os.geteuid():
+        os.chmod("latin/x.md", 0)
+        refused("a file that may not be read", "docs_server: cannot read latin/x.md: permission denied\n")
     config(FOLDER.format("absent"))
     refused("no such folder", "cannot read absent")
     config(FOLDER.format("docs/a.md"))
     refused("a folder that is a file", "cannot read docs/a.md")
+
+
+def most_pages():
+    """10,000 pages, and one more; a path that comes again in the rows is one page."""
+    for number in range(10_000):
+        put(f"many/{number:05}.md", "x\n")
+    config('[[folder]]\npath = "many"\n')
+    told("10,000 pages", ["10000 pages, 0 media, 0 bad"])
+    config('[[page]]\npath = "a.md"\ntext = "A"\n' * 2 + '[[folder]]\npath = "many"\n')
+    refused("10,001 pages", "docs_server: cannot read many/09999.md: more than 10000 pages\n")
+    told("10,001 pages", ["many/09999.md: more than 10000 pages", "9999 pages, 0 media, 1 bad"])
+    shutil.rmtree("many")
+
+
+def normal_names():
+    """Names in normalization form C, and two files that would have one path."""
+    apart, whole = "u\u0308.md", "\u00fc.md"
+    put("names/" + apart, "Apart.\n")
+    config('[[folder]]\npath = "names"\ngroups = ["staff"]\nnames = "nfc"\n')
+    server = scene.listen("site.toml")
+    shown(server, {whole: "Apart."}, [apart])
+    scene.ends(server, "a name that is normalised")
+    put("names/" + whole, "Whole.\n")
+    line = f"names/{whole}: its path is that of names/{apart}"
+    refused("two names of one path", f"docs_server: cannot read {line}\n")
+    told("two names of one path", [line, "1 pages, 0 media, 1 bad"])
+    put("names/" + apart, b"\xff")
+    told("the first of two is bad", [f"names/{apart}: not UTF-8", "1 pages, 0 media, 1 bad"])
+    put("names/" + apart, "Apart.\n")
+    config('[[folder]]\npath = "names"\ngroups = ["staff"]\n')
+    server = scene.listen("site.toml")
+    shown(server, {whole: "Whole.", apart: "Apart."})
+    scene.ends(server, "names as the system gives them")
+
+
+def readmes():
+    """A README becomes the index of its folder where there is none, and stays an alias; `compact` writes nothing of it."""
+    for name, text in (("README.md", "[g](guide/) [a](guide/README.md)\n"), ("guide/README.md", "Guide.\n"), ("x/README.md", "Readme.\n"),
+                       ("x/index.md", "Index.\n"), ("y/readme.md", "Other case.\n")):
+        put("readme/" + name, text)
+    config('[[folder]]\npath = "readme"\nreadme = true\n')
+    server = scene.listen("site.toml", journal="readme.journal")
+    client = Client(server.port, "owner")
+    both = b'<a href="/page/guide/index.md">'
+    scene.check("links lead to the index", client.ask("/page/index.md")[2].count(both) == 2)
+    scene.check("a folder's address", b"Guide." in client.ask("/page/guide/")[2])
+    code, head, _ = client.ask("/page/guide/README.md")
+    scene.check("the README leads there", code == 301 and b"/page/guide/index.md" in head, head)
+    for path, status in (("x/README.md", 200), ("x/index.md", 200), ("y/readme.md", 200), ("y/index.md", 404)):
+        scene.check(path, client.ask("/page/" + path)[0] == status)
+    client.close()
+    scene.ends(server, "readmes")
+    config('[[folder]]\npath = "readme"\n')
+    server = scene.listen("site.toml")
+    scene.check("without the key", Client(server.port, "owner").ask("/page/guide/README.md")[0] == 200)
+    scene.ends(server, "without the key")
 
 
 def bad_tables():
@@ -159,6 +273,9 @@ def bad_tables():
                        ("no path", "[[folder]]\n"),
                        ("a bad prefix", '[[folder]]\npath = "docs"\nprefix = "a//b"\n'),
                        ("a bad group", '[[folder]]\npath = "docs"\ngroups = ["A"]\n'),
+                       ("bad names", '[[folder]]\npath = "docs"\nnames = "NFC"\nreadme = 1\n'),
+                       ("a bad readme", '[[folder]]\npath = "docs"\nreadme = "x"\non_bad = 1\n'),
+                       ("a bad on_bad", '[[folder]]\npath = "docs"\non_bad = "go"\n'),
                        ("no connections", "[listen]\nconnections = 0\n"),
                        ("no seconds", "[listen]\nidle_seconds = 0\n"),
                        ("an unknown bound", "[listen]\nseconds = 1\n")):
@@ -176,6 +293,10 @@ def main():
     excepted()
     twice()
     bad_files()
+    bad_folders()
+    most_pages()
+    normal_names()
+    readmes()
     bad_tables()
 
 
