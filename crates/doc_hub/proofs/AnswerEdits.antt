@@ -16,7 +16,7 @@ use Rattle.doc_hub_editing.proofs.EditsCan.{EditingCan, edit_response_can}
 use Rattle.doc_hub_editing.specs.EditAnswers.{edit_response}
 use Rattle.doc_hub_editing.specs.EditResponses.{EditingResponse}
 use Rattle.doc_hub_asking.specs.Asking.{Asking, is_guest, row_of}
-use Rattle.doc_hub_people.specs.PeopleAnswers.{people_reply}
+use Rattle.doc_hub_replies.specs.PeopleAnswers.{people_reply}
 use Rattle.doc_hub_replies.specs.Answers.{answer_by, answer_of, asks_for_style, dress_by, dress_for, edited_or, is_for_people}
 use Rattle.doc_hub_replies.specs.Answers.{kept_from_guests}
 use Rattle.doc_hub_replies.specs.Answers.{media_or, people_answer, style_answer, unedited}

@@ -28,7 +28,7 @@ use Rattle.doc_hub_answers.specs.declared.method.Method.TheVariants.{Get, Head, 
 use Rattle.doc_hub_answers.proofs.OwnerSteps.{owner_page}
 use Rattle.doc_hub_asking.specs.Asking.{Asking, row_of}
 use Rattle.doc_hub_asking.specs.Asking as asked
-use Rattle.doc_hub_people.specs.PeopleAnswers.{offers_for}
+use Rattle.doc_hub_replies.specs.PeopleAnswers.{offers_for}
 use Rattle.doc_hub_editing_refusals.specs.Asked.{EditRequest}
 use Rattle.doc_hub_editing_refusals.specs.Asked as requests
 use Rattle.doc_hub_editing.specs.EditRequests.{edit_request_of}

@@ -22,7 +22,7 @@ use Rattle.doc_hub_editing.specs.EditRequests.{if_put, if_read}
 use Rattle.doc_hub_editing.specs.EditResponses.{EditingResponse}
 use Rattle.doc_hub_asking.specs.Asking.{Asking, row_of}
 use Rattle.doc_hub_asking.specs.Asking as asked
-use Rattle.doc_hub_people.specs.PeopleAnswers.{offers_for}
+use Rattle.doc_hub_replies.specs.PeopleAnswers.{offers_for}
 
 -- ---- what asks whether a put is taken
 

@@ -20,7 +20,7 @@ use Rattle.doc_hub_answers.specs.Replies.{Renders, status_reply}
 use Rattle.doc_hub_answers.specs.declared.edit.Edit.TheVariants as edits
 use Rattle.doc_hub_asking.specs.Asking.{Asking}
 use Rattle.doc_hub_asking.specs.Asking as asked
-use Rattle.doc_hub_people.specs.PeopleAnswers.{offers_for}
+use Rattle.doc_hub_replies.specs.PeopleAnswers.{offers_for}
 use Rattle.doc_hub_editing_refusals.specs.Asked.{EditRequest}
 use Rattle.doc_hub_editing_refusals.specs.Asked as requests
 use Rattle.doc_hub_editing.specs.EditRequests.{edit_request_of}

@@ -11,8 +11,6 @@ mod WorkedExamples
 mod UnreadSteps
 mod ReportSteps
 mod SiteSteps
-mod EventSteps
 mod ReplayExamples
 mod ReplaySteps
-mod ScriptSteps
 mod StopSteps

@@ -11,7 +11,7 @@ use Rattle.doc_server_script.specs.Escapes.{unescaped, escaped}
 use Rattle.doc_server_script.specs.Lines.{event_of}
 use Rattle.doc_server_streams.specs.declared.fault.Fault.TheVariants as faults
 use Rattle.doc_server.specs.Replays.{outcome_lines}
-use Rattle.doc_server.specs.Scripts.{lines, events_of}
+use Rattle.doc_server_script.specs.Scripts.{lines, events_of}
 
 -- ---- lines end at a LF alone
 

@@ -17,7 +17,7 @@ use Rattle.doc_server_streams.specs.declared.fault.Fault.{Fault}
 use Rattle.doc_server_streams.specs.declared.fault.Fault.TheVariants as faults
 use Rattle.doc_server_streams.proofs.Prefixes.{front_is_prefix, prefix_behind}
 use Rattle.doc_server.specs.Replays.{outcome_lines, RunTells, Replays}
-use Rattle.doc_server.specs.Scripts.{events_of}
+use Rattle.doc_server_script.specs.Scripts.{events_of}
 use Rattle.doc_server.specs.Sites.{site_world}
 
 -- of all these lines some are sent, and those of the rest are left

@@ -22,7 +22,7 @@ use Rattle.doc_server_streams.specs.declared.fault.Fault.TheVariants as faults
 use Rattle.doc_server_streams.proofs.Prefixes.{front_is_prefix}
 use Rattle.doc_server.specs.Replays.{outcome_lines, Replays, RunTells, StopsReplay}
 use Rattle.doc_server.specs.ReplaySteps.{StopsScript}
-use Rattle.doc_server.specs.Scripts.{events_from, events_of, lines}
+use Rattle.doc_server_script.specs.Scripts.{events_from, events_of, lines}
 use Rattle.doc_server.proofs.ReplaySteps.{script_told, replayed}
 use Rattle.doc_server.specs.Sites.{site_world, with_pages, settings_of}
 

@@ -9,5 +9,3 @@ pub mod Checks
 pub mod Sites
 pub mod ReplaySteps
 pub mod Replays
-pub mod ScriptSteps
-pub mod Scripts

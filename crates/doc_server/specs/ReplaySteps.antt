@@ -7,7 +7,7 @@ use Rattle.doc_server_streams.specs.Streams.{AppendsPrefix}
 use Rattle.doc_server_streams.specs.declared.fault.Fault.{Fault}
 use Rattle.doc_server_streams.specs.declared.fault.Fault.TheVariants as faults
 use Rattle.doc_server.specs.Replays.{RunTells}
-use Rattle.doc_server.specs.Scripts.{events_of}
+use Rattle.doc_server_script.specs.Scripts.{events_of}
 
 -- A script on this world has a bad line, or the outcomes' lines were cut off, or memory ran out.
 abbrev pub StopsScript : Renders → World → List ℕ → Option (List ℕ) → Option (List ℕ) → Fault → Type 0

@@ -12,7 +12,7 @@ use Rattle.doc_server_streams.specs.Streams.{AppendsPrefix}
 use Rattle.doc_server_streams.specs.Inputs.{OfText}
 use Rattle.doc_server_streams.specs.declared.fault.Fault.{Fault}
 use Rattle.doc_server_streams.specs.declared.fault.Fault.TheVariants as faults
-use Rattle.doc_server.specs.Scripts.{events_of}
+use Rattle.doc_server_script.specs.Scripts.{events_of}
 use Rattle.doc_server.specs.Sites.{site_world}
 
 -- a line for each outcome, with its LF

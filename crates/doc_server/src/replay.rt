@@ -8,7 +8,6 @@ ghost use Rattle.doc_server_streams.specs.OutputSteps.{StopsAt};
 ghost use Rattle.doc_server.specs.Replays.{outcome_lines, Replays, RunTells, StopsReplay};
 ghost use Rattle.doc_server.specs.ReplaySteps.{StopsScript};
 
-use crate::script::events_of;
 use crate::site::site_hub;
 use doc_hub::hub::Hub;
 use doc_hub::outcome::Outcome;
@@ -18,6 +17,7 @@ use doc_page_parts::heap::{Heap, String};
 use doc_page_parts::text::Text;
 use doc_server_config::config::SiteConfig;
 use doc_server_script::outcome::push_outcome;
+use doc_server_script::script::events_of;
 use doc_server_streams::fault::Fault;
 use doc_server_streams::input::Input;
 use doc_server_streams::output::Output;

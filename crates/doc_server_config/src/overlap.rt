@@ -140,6 +140,12 @@ pub(crate) fn path_count(heap: Heap, pages: &[PageRow]) -> Result<usize, Memory>
     Ok(marks.entries.len())
 }
 
+/// How many different paths some pages have.
+pub(crate) fn path_count(heap: Heap, pages: &[PageRow]) -> Result<usize, Memory> {
+    let marks = Marks::of(heap, pages)?;
+    Ok(marks.entries.len())
+}
+
 /// The first path, in the order of the rows of a configuration and of the pages of its folders behind them, that two of these give, of
 /// which one is a folder's.
 pub fn first_overlap<'a>(

@@ -21,7 +21,7 @@ use Rattle.doc_server_script.specs.Edits.{put_line, remove_line, move_line}
 use Rattle.doc_server_script.specs.Escapes.{is_printable}
 use Rattle.doc_server_script.specs.Lines.{event_of}
 use Rattle.doc_server_script.proofs.ReadLaws.{edits_are_read, edits_are_lines}
-use Rattle.doc_server.specs.Scripts.{events_from, events_of, lines, onto_first}
+use Rattle.doc_server_script.specs.Scripts.{events_from, events_of, lines, onto_first}
 use Rattle.doc_server_script.specs.PageLines.{line_of, lines_of}
 use Rattle.doc_server_restore.specs.Laws.{AreEdits, IsEdit, LinesAreRead}
 use Rattle.doc_server_restore.specs.Restores.{edits_in, in_front}

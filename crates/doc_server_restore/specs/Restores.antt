@@ -13,7 +13,7 @@ use Rattle.doc_media.specs.Media.{Media}
 use Rattle.doc_hub.specs.Worlds.{moved_beside, put_beside}
 use Rattle.doc_hub_events.specs.declared.event.Event.{Event}
 use Rattle.doc_hub_events.specs.declared.event.Event.TheVariants as events
-use Rattle.doc_server.specs.Scripts.{events_of}
+use Rattle.doc_server_script.specs.Scripts.{events_of}
 use Rattle.doc_server_script.specs.Replays.{unless_refused}
 use Rattle.doc_server_restore.specs.declared.fault.RestoreFault.{RestoreFault}
 use Rattle.doc_server_restore.specs.declared.fault.RestoreFault.TheVariants as faults

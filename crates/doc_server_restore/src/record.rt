@@ -3,7 +3,7 @@
 ghost use Rattle.std.specs.Prelude.{◌≡◌, IfOk, None, option_and_then};
 ghost use Rattle.std.specs.List.{list_all};
 ghost use Rattle.std.specs.Result.{result_ok};
-ghost use Rattle.doc_server.specs.Scripts.{events_of};
+ghost use Rattle.doc_server_script.specs.Scripts.{events_of};
 ghost use Rattle.doc_server_restore.specs.Restores.{edits_in, edits_of};
 ghost use Rattle.doc_server_restore.specs.RestoreSteps.{Reads, is_edit};
 
@@ -11,7 +11,7 @@ use doc_hub::event::Event;
 use doc_page_parts::failure::Memory;
 use doc_page_parts::heap::Heap;
 use doc_page_parts::list::List;
-use doc_server::script::events_of;
+use doc_server_script::script::events_of;
 use doc_server_streams::fault::Fault;
 use std::str;
 

@@ -13,3 +13,5 @@ pub mod CompactionLaw
 pub mod MadeSteps
 pub mod ReplayLaw
 pub mod Without
+mod EventSteps
+mod ScriptSteps

@@ -11,3 +11,5 @@ pub mod PageLines
 pub mod PlainLines
 pub mod Replays
 pub mod Reads
+pub mod ScriptSteps
+pub mod Scripts

@@ -25,4 +25,5 @@ pub mod laws;
 pub mod line;
 pub mod outcome;
 pub mod page_lines;
+pub mod script;
 mod unescaping;

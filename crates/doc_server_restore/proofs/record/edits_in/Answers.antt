@@ -1,6 +1,6 @@
 use Rattle.std.proofs.Common.{ap, sym, ◌∙◌}
 use Rattle.std.specs.List.{list_all}
-use Rattle.doc_server.specs.Scripts.{events_of}
+use Rattle.doc_server_script.specs.Scripts.{events_of}
 use Rattle.doc_server_restore.specs.RestoreSteps.{is_edit}
 use Rattle.doc_server_restore.proofs.RecordSteps.{script_bad, script_read}
 use Rattle.doc_server_restore.proofs.record.edits_in.Goals as goal

@@ -2,14 +2,14 @@
 
 ghost use Rattle.std.specs.Prelude.{◌≡◌, ◌≢◌, ◌<◌, [], ◌∷◌, length, None, Some, Ok, Err, IfOk, IfErr, MatchOption};
 ghost use Rattle.doc_server_script.specs.Lines.{event_of};
-ghost use Rattle.doc_server.specs.ScriptSteps.{cut};
-ghost use Rattle.doc_server.specs.Scripts.{events_of, lines};
+ghost use Rattle.doc_server_script.specs.ScriptSteps.{cut};
+ghost use Rattle.doc_server_script.specs.Scripts.{events_of, lines};
 
-use doc_hub::event::Event;
+use crate::line::event_of;
+use doc_hub_events::event::Event;
 use doc_page_parts::failure::Memory;
 use doc_page_parts::heap::{Heap, Vec};
 use doc_page_parts::list::List;
-use doc_server_script::line::event_of;
 use doc_server_streams::fault::Fault;
 
 /// The events of a script, one a line. A line ends at a line feed alone, and the last one may end without. `BadScriptLine` has the

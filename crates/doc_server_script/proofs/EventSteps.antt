@@ -3,7 +3,7 @@ use Rattle.std.proofs.Common.{◌≡◌, ℕ, List, [], ap, ◌∙◌}
 use Rattle.std.specs.Prelude.{Result, Ok}
 use Rattle.doc_hub_events.specs.declared.event.Event.{Event}
 use Rattle.doc_server_streams.specs.declared.fault.Fault.{Fault}
-use Rattle.doc_server.specs.Scripts.{events_from, lines}
+use Rattle.doc_server_script.specs.Scripts.{events_from, lines}
 
 -- no line is left
 pub all_read : (answer : Result (List Event) Fault) (found : List Event) (n : ℕ) (left : List ℕ)

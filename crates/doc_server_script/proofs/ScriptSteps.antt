@@ -7,8 +7,8 @@ use Rattle.std.specs.List.{position_or_len, before_first, after_first}
 use Rattle.std.proofs.lemmas.List.Sums.{prefix_len-le-length}
 use Rattle.std.proofs.lemmas.Bool.{cases_Bool}
 use Rattle.std.proofs.lemmas.Bool.Decides.{nat_tests}
-use Rattle.doc_server.specs.ScriptSteps.{cut, is_lf}
-use Rattle.doc_server.specs.Scripts.{lines, onto_first}
+use Rattle.doc_server_script.specs.ScriptSteps.{cut, is_lf}
+use Rattle.doc_server_script.specs.Scripts.{lines, onto_first}
 
 cut_at : (t : Bool) (b : ℕ) (rest : List ℕ) → (t ≡ false → lines rest ≡ before_first is_lf rest ∷ lines (after_first is_lf rest))
     → cond t ([] ∷ lines rest) (onto_first b (lines rest))

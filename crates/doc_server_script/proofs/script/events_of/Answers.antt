@@ -1,7 +1,7 @@
 use Rattle.std.proofs.Common.{ap, sym, ◌∙◌}
 use Rattle.std.specs.Prelude.{Ok}
-use Rattle.doc_server.proofs.EventSteps.{all_read}
-use Rattle.doc_server.proofs.script.events_of.Goals as goal
+use Rattle.doc_server_script.proofs.EventSteps.{all_read}
+use Rattle.doc_server_script.proofs.script.events_of.Goals as goal
 
 pub returns-clause-read : goal.returns-clause-read
 returns-clause-read c =

@@ -1,8 +1,8 @@
 use Rattle.std.proofs.Common.{◌≡◌, ◌≤◌, ◌+◌, length}
-use Rattle.doc_server.specs.Scripts.{events_from, events_of, lines}
+use Rattle.doc_server_script.specs.Scripts.{events_from, events_of, lines}
 use denote.Shadow.{shadow}
 use denote.Text.{Utf8}
-use Rattle.doc_server.proofs.script.events_of.Given as goal
+use Rattle.doc_server_script.proofs.script.events_of.Given as goal
 
 abbrev pub invariant-lines : goal.invariant-lines
 invariant-lines l = record {

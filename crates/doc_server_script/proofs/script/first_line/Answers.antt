@@ -1,7 +1,7 @@
 use Rattle.std.proofs.Common.{◌<◌, length, arith}
 use Rattle.std.proofs.lemmas.Bool.Decides.{nat_tests}
-use Rattle.doc_server.proofs.ScriptSteps.{cut_line, last_line}
-use Rattle.doc_server.proofs.script.first_line.Goals as goal
+use Rattle.doc_server_script.proofs.ScriptSteps.{cut_line, last_line}
+use Rattle.doc_server_script.proofs.script.first_line.Goals as goal
 
 pub returns-in-Some : goal.returns-in-Some
 returns-in-Some c =
