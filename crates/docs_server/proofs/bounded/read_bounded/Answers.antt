@@ -7,5 +7,5 @@ returns g c = record {
   document = c.in_ok-site.ensures.document;
   own = c.in_ok-site.ensures.own;
   is_own = c.in_ok-site.ensures.is_own;
-  others = subst (λ rows. HasOthers rows c.in_ok-pages.pages.config.pages) c.in_ok-site.ensures.pages c.in_ok-pages.ensures;
+  others = subst (λ rows. HasOthers rows c.in_ok-pages.field-0.pages.config.pages) c.in_ok-site.ensures.pages c.in_ok-pages.ensures;
 }
