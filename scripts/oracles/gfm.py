@@ -8,6 +8,7 @@ programs read otherwise without an extension are left out. A difference is sorte
 script then ends with status 1. Needs python3 and cmark-gfm.
 """
 import concurrent.futures
+import itertools
 import os
 import re
 import subprocess
@@ -169,13 +170,21 @@ class Sorted:
                 break
         return [name for name in self.kinds if name in names]
 
+    def explained(self, text, names):
+        """The fewest of these kinds behind whose mends the two read a text alike, or none: a mend may bring about what another one leaves."""
+        for count in range(1, len(names) + 1):
+            for some in itertools.combinations(names, count):
+                if self.alike([self.mended(text, some)])[0]:
+                    return list(some)
+        return None
+
     def sort(self, texts):
         """For each text the kinds without whose mends the two still read it otherwise; one of no kinds is unknown."""
         left = [self.possible(text) for text in texts]
         good = self.alike([self.mended(text, names) for text, names in zip(texts, left)])
-        self.unknown = [text for text, is_good in zip(texts, good) if not is_good]
-        texts, left = zip(*[pair for pair, is_good in zip(zip(texts, left), good) if is_good]) if any(good) else ([], [])
-        left = list(left)
+        left = [names if is_good else self.explained(text, names) for text, names, is_good in zip(texts, left, good)]
+        self.unknown = [text for text, names in zip(texts, left) if names is None]
+        texts, left = [[*pairs] for pairs in zip(*[pair for pair in zip(texts, left) if pair[1] is not None])] or ([], [])
         for name in self.kinds:
             fewer = [[other for other in names if other != name] for names in left]
             good = self.alike([self.mended(text, names) for text, names in zip(texts, fewer)])

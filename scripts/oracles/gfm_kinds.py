@@ -20,19 +20,29 @@ def delimiter_rows(lines):
             yield at, len(found[1])
 
 
-def depth_of(text, word):
-    """How many container blocks stand round a word in a text, by cmark-gfm without extensions."""
-    run = subprocess.run(["cmark-gfm", "--unsafe"], input=text.encode(), stdout=subprocess.PIPE, check=True)
-    before = run.stdout.decode().partition(word)[0]
+def shown(lines, at, line):
+    """The HTML of the lines with another one in the place of one, by cmark-gfm with its tables."""
+    text = "\n".join([*lines[:at], line, *lines[at + 1:]])
+    return subprocess.run(["cmark-gfm", "--unsafe", "-e", "table"], input=text.encode(), stdout=subprocess.PIPE, check=True).stdout.decode()
+
+
+def depth_of(html, word):
+    """How many container blocks stand round a word."""
+    before = html.partition(word)[0]
     return sum(before.count(f"<{tag}") - before.count(f"</{tag}") for tag in ("blockquote", "li"))
 
 
 def is_lazy(lines, at, start):
-    """Whether the line goes on with a paragraph although its containers weren't matched: a heading in its place stands in fewer."""
-    depths = []
-    for words in ("zzq", "# zzq"):
-        depths.append(depth_of("\n".join([*lines[:at], lines[at][:start] + words, *lines[at + 1:]]), "zzq"))
-    return depths[0] != depths[1]
+    """Whether the line goes on with a paragraph although its containers weren't matched: a heading in its place stands in fewer. One that
+    stands too far in to be a heading is moved to the left until it is."""
+    before = lines[at][:start]
+    depth = depth_of(shown(lines, at, before + "zzq"), "zzq")
+    before = before.expandtabs(4)
+    while True:
+        heading = shown(lines, at, before + "# zzq")
+        if "# zzq" not in heading or not before.endswith(" "):
+            return depth_of(heading, "zzq") != depth
+        before = before[:-1]
 
 
 def each_line(text, changed):
@@ -112,6 +122,11 @@ def other_spaces(text):
     return re.sub(r"[\f\v]", "x", text)
 
 
+def tags_behind_items(text):
+    """A text without lines of one tag, which version 0.29 of CommonMark lets begin HTML behind the paragraph of an item or a quote."""
+    return re.sub(r"(?m)^([ \t]*)<b>[ \t]*$", r"\1b", text)
+
+
 # ---- strikethrough
 
 def seen_through(text):
@@ -130,21 +145,22 @@ BOX = r"\[[ xX]\]"
 def boxes_inside(text):
     """A text without markers in quotes, or in items that begin behind another one's start on a line."""
     start = r"(?:[-*+]|\d{1,9}[.)])[ \t]+"
-    return re.sub(rf"(?m)^({PREFIX}){BOX}", lambda found: found[0] if re.fullmatch(rf"[ \t]*{start}", found[1]) else found[1] + "(x)", text)
+    return re.sub(rf"(?m)^({PREFIX}){BOX}", lambda found: found[0] if re.fullmatch(rf"[ \t]*{start}", found[1]) else found[1] + "/x/", text)
 
 
 def boxes_behind(text):
-    return re.sub(rf"(?m)^({PREFIX}\[ \])(.*)$", lambda found: found[1] + re.sub(r"\[[xX]\]", "(x)", found[2]), text)
+    return re.sub(rf"(?m)^({PREFIX}\[ \])(.*)$", lambda found: found[1] + re.sub(r"\[[xX]\]", "/x/", found[2]), text)
 
 
 def boxes_alone(text):
     """A text without markers that nothing stands behind, or definitions."""
-    return re.sub(rf"(?m)^({PREFIX}){BOX}(?=[ \t]*$|[ \t]*\[[^\]\n]*\]:)", r"\1(x)", text)
+    return re.sub(rf"(?m)^({PREFIX}){BOX}(?=[ \t]*$|[ \t]*\[[^\]\n]*\]:)", r"\1/x/", text)
 
 
 def boxes_of_headings(text):
     """A text without markers on lines that an underline makes headings."""
-    return re.sub(rf"(?m)^({PREFIX}){BOX}(?=.*\n[ \t>]*(?:=+|-+)[ \t]*$)", r"\1(x)", text)
+    behind = r"(?=.*(?:\n[ \t>]*[^ \t>\n].*)*?\n[ \t>]*(?:=+|-+)[ \t]*$)"
+    return re.sub(rf"(?m)^({PREFIX}){BOX}{behind}", r"\1/x/", text)
 
 
 def box_first(html):
@@ -174,6 +190,11 @@ def images(text):
     return text.replace("![", "! (")
 
 
+def dead_brackets(text):
+    """A text without brackets that begin no link: a link in them has made them dead."""
+    return re.sub(r"\[(?![^\[\]]*\]\()", "(", text)
+
+
 def mail(text):
     return text.replace("@", "a")
 
@@ -190,6 +211,7 @@ EXTENSIONS = {
         "a list with a table of no rows is loose": rowless_tables,
         "form feeds and vertical tabs are spaces": other_spaces,
         "more than 100 columns": wide_rows,
+        "a tag alone on its line begins HTML behind an item's paragraph (CommonMark 0.29)": tags_behind_items,
     }),
     "strikethrough": ("strikethrough", {
         "a tilde is seen through for the neighbours of * and _": seen_through,
@@ -206,6 +228,7 @@ EXTENSIONS = {
         "a host's end at the end of the text isn't looked at": ends_of_hosts,
         "an underscore behind a host forbids the link": underscores,
         "an image's bracket is taken as closed": images,
+        "a bracket that is dead is taken as open": dead_brackets,
         "mail addresses": mail,
     }),
 }

@@ -19,7 +19,7 @@ from replies import Hub, REASONS, written
 from trial_lines import Dice, given, write
 from words import words_of
 
-SHEET = 4
+SHEET = 5
 BEFORE, AFTER, TOC, TOC_LEVEL, ASIDE, LIST, SOURCES, LINKS = 30, 60, 100, 3, 20, 200, 50, 50
 HITS, PREFIX, READ, LEAD, SNIPPET, SHORT = 50, 3, 65536, 60, 200, 80
 WHITE = "\t\n\x0b\x0c\r "
