@@ -114,9 +114,9 @@ def got(name):
         return file.read()
 
 
-def without_browse(name):
-    """A configuration's text without its pages for people, so that `listen` answers every request as other commands do."""
-    return re.sub(r"(?m)^\[browse\]\n(?:(?!\[).*\n)*", "", got(name).decode())
+def read_by_all(name):
+    """A configuration's text without what `listen` alone reads, its pages for people and its folders, so that it answers every request as other commands do."""
+    return re.sub(r"(?m)^\[(browse|\[folder\])\]\n(?:(?!\[).*\n)*", "", got(name).decode())
 
 
 def free_port():

@@ -1,6 +1,6 @@
 """Sends the same bytes to `serve` and to `listen` over the handbook in site/, and compares what comes back, byte for byte up to the end of
 each connection: whole requests of each route by each reader, pipelines, edits with what is read behind them, and requests that are none
-(each fault of docs/HTTP.md). The pages for people, which `listen` alone has, are turned off. To `listen` they are sent at once, and again in pieces of a few bytes, and no connection of it is reset,
+(each fault of docs/HTTP.md). The pages for people and folders, which `listen` alone has, are turned off. To `listen` they are sent at once, and again in pieces of a few bytes, and no connection of it is reset,
 as that of `serve` may be where bytes behind a last reply weren't read. scripts/site/serve_site.py compares the replies of `serve` with ones
 written by hand.
 
@@ -10,7 +10,7 @@ Builds nothing. Needs python3. Half a minute.
 """
 import os, random, socket, subprocess, sys, threading, time, tomllib
 sys.path.insert(1, os.path.dirname(__file__) + "/../lib")
-from scene import HOST, TOP, Scene, free_port, put, request, start, without_browse
+from scene import HOST, TOP, Scene, free_port, put, read_by_all, request, start
 
 scene = Scene(seconds=200, numbers=(1,), at_top=True)
 chance = random.Random()
@@ -92,7 +92,7 @@ def served(parts):
 
 
 def listened(parts, piece):
-    put(scene.scratch + "/plain.toml", without_browse(CONFIG))
+    put(scene.scratch + "/plain.toml", read_by_all(CONFIG))
     server = scene.listen(scene.scratch + "/plain.toml")
     found = exchange(server.port, parts, piece)
     scene.ends(server, "listen")

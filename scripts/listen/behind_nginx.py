@@ -17,7 +17,7 @@ Builds nothing. Needs python3, openssl, and nginx, curl, wget and chromium, whic
 import os, re, sys, tomllib, urllib.parse
 sys.path.insert(1, os.path.dirname(__file__) + "/../lib")
 from proxies import Nginx, fields, keys, run
-from scene import Client, Scene, put, without_browse
+from scene import Client, Scene, put, read_by_all
 
 scene = Scene(seconds=300, needs=["nginx=nginx-light", "curl", "wget", "chromium", "openssl"], at_top=True)
 LINK = re.compile(r'href="(/page/[^"#]*)')
@@ -114,7 +114,7 @@ def check_heads(name, curl, with_browse):
 
 def check_plain():
     """The same proxy before a server without pages for people."""
-    put(f"{scene.scratch}/plain.toml", without_browse("site/config.toml"))
+    put(f"{scene.scratch}/plain.toml", read_by_all("site/config.toml"))
     server = scene.listen(f"{scene.scratch}/plain.toml")
     proxy = Proxy(scene, server.port)
     try:

@@ -268,11 +268,42 @@ def readmes():
     scene.ends(server, "without the key")
 
 
+def media():
+    """Media and their bounds, by `folders` alone."""
+    for name, count in (("a.png", 60), ("b.png", 60), ("c.png", 40), ("n.xyz", 1), (".x/d.png", 1), ("e/F.JPG", 1), ("e/.png", 1)):
+        put("media/" + name, b"x" * count)
+    folder = '[[folder]]\npath = "media"\n'
+    config(folder)
+    told("no media", ["0 pages, 0 media, 0 bad"])
+    config(folder + "media = true\n")
+    told("all media", ["0 pages, 4 media, 0 bad"])
+    config(folder + 'media = ["jpg", "gif", "jpg"]\n')
+    told("some media", ["0 pages, 1 media, 0 bad"])
+    config(folder + "media = true\n[listen]\nmedia_bytes = 100\n")
+    # those that come first stand: 60 bytes, and 40 behind the 60 that are too many; then one is
+    lines = [f"media/{name}: media of more than 100 bytes together" for name in ("b.png", "e/F.JPG")]
+    told("too many bytes together", [*lines, "0 pages, 2 media, 2 bad"])
+    refused("too many bytes together", f"docs_server: cannot read {lines[0]}\n")
+    put("media/a%b.png", b"x")
+    put("media/long.pdf", b"x" * 8_388_609)
+    config(folder + 'media = ["pdf", "png"]\n')
+    told("bad media", [f"media/a%b.png: {CHARACTER}", "media/long.pdf: more than 8388608 bytes", "0 pages, 3 media, 2 bad"])
+    put("media/long.pdf", b"x" * 8_388_608)
+    told("the longest", [f"media/a%b.png: {CHARACTER}", "0 pages, 4 media, 1 bad"])
+    os.remove("media/a%b.png")
+    config('[[page]]\npath = "c.png"\ntext = "C"\n' + folder + "media = true\n")
+    refused("a row's path", "config: c.png twice\n")
+
+
 def bad_tables():
     for name, text in (("an unknown key", '[[folder]]\npath = "docs"\nfile = "x"\n'),
                        ("no path", "[[folder]]\n"),
                        ("a bad prefix", '[[folder]]\npath = "docs"\nprefix = "a//b"\n'),
                        ("a bad group", '[[folder]]\npath = "docs"\ngroups = ["A"]\n'),
+                       ("no array of extensions", '[[folder]]\npath = "docs"\nmedia = false\nnames = 1\n'),
+                       ("no extension", '[[folder]]\npath = "docs"\nmedia = ["png", "PNG"]\n'),
+                       ("no extensions", '[[folder]]\npath = "docs"\nmedia = []\n'),
+                       ("no bytes", "[listen]\nmedia_bytes = 0\n"), ("too many bytes", "[listen]\nmedia_bytes = 1073741825\n"),
                        ("bad names", '[[folder]]\npath = "docs"\nnames = "NFC"\nreadme = 1\n'),
                        ("a bad readme", '[[folder]]\npath = "docs"\nreadme = "x"\non_bad = 1\n'),
                        ("a bad on_bad", '[[folder]]\npath = "docs"\non_bad = "go"\n'),
@@ -297,6 +328,7 @@ def main():
     most_pages()
     normal_names()
     readmes()
+    media()
     bad_tables()
 
 

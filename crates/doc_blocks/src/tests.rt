@@ -12,6 +12,7 @@ fn a_table(rt: HostRuntime) -> Result<(), Fail> {
         strikethrough: false,
         tasks: false,
         bare_links: false,
+        images: false,
     };
     let entities = Entities::built_in().with_options(options);
     let document = blocks(rt.alloc(), "text\n| a |\n|---|\n===\n", &entities)?;

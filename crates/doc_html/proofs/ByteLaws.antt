@@ -10,14 +10,14 @@ use Rattle.doc_rules.specs.Characters.{Text}
 use Rattle.doc_rules.specs.Destinations.{Target}
 use Rattle.doc_rules.specs.Rules.{Rules}
 use Rattle.doc_rules.specs.Blocks.{Document}
-use Rattle.doc_rules.specs.Html.{Character, LinkTag, Output, output_of, Linker, written_text, html_of}
+use Rattle.doc_rules.specs.Html.{Character, LinkTag, ImageNote, Output, output_of, Linker, written_text, html_of}
 use Rattle.doc_rules.specs.Pages.{Page, LinkPiece, filled, piece_text, encoded, encoded_piece}
 use Rattle.doc_rules.specs.Laws.{ShowsAlike}
 use Rattle.doc_rules.proofs.FillingLaws.{filling_is_by_bytes}
 use Rattle.doc_html.specs.HtmlBytes.{written_bytes, html_bytes}
 
 page_of_link : Target → Page
-page_of_link target = record { pieces = LinkPiece target ∷ []; headings = []; texts = [] }
+page_of_link target = record { pieces = LinkPiece target ∷ []; headings = []; texts = []; images = [] }
 
 module _ (linker : Linker) (shown : List ℕ → Shown) (alike : ShowsAlike shown linker) where
   tag_by_bytes : (target : Target) → opening_tag (option_map encode_utf8_all target.title) (shown (encode_utf8_all target.dest))
@@ -36,6 +36,7 @@ module _ (linker : Linker) (shown : List ℕ → Shown) (alike : ShowsAlike show
       ∙ (ap (λ behind. encode_utf8_all (flat_map (written_text linker) (LinkTag target ∷ [])) ++ behind) (output_by_bytes more)
       ∙ (sym (encodes-append (flat_map (written_text linker) (LinkTag target ∷ [])) (flat_map (written_text linker) more))
       ∙ ap encode_utf8_all (sym (flat_map-append (written_text linker) (LinkTag target ∷ []) more))))
+  output_by_bytes (ImageNote dest ∷ more) = output_by_bytes more
 
 pub html_by_bytes : (rules : Rules) (anchors : List Text) (document : Document) (linker : Linker) (shown : List ℕ → Shown)
     → ShowsAlike shown linker → html_bytes rules shown anchors document ≡ encode_utf8_all (html_of rules linker anchors document)

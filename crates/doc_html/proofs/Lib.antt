@@ -12,6 +12,7 @@ pub mod TableSteps
 pub mod TableLaws
 pub mod WrittenSteps
 pub mod PieceSteps
+pub mod ImageSteps
 pub mod PageSteps
 pub mod TellingLaws
 pub mod PageLaws

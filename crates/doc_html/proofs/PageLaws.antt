@@ -2,6 +2,7 @@
 use Rattle.std.proofs.Common.{◌≡◌, ℕ, Bool, true, false, List, [], ◌∷◌, ◌++◌, map, refl, ap, sym, ◌∙◌, append_assoc, append-nil}
 use Rattle.std.specs.Prelude.{codes, decimal, Option, Some, None}
 use Rattle.doc_page_parts.specs.declared.linker.Shown.{Shown}
+use Rattle.doc_page_parts.specs.declared.rendered.Rendered.{Rendered}
 use Rattle.doc_rules.specs.Characters.{Text}
 use Rattle.doc_rules.specs.Anchors.{anchor_name, free_anchor, anchors_behind}
 use Rattle.doc_rules.specs.Definitions.{Definition}
@@ -13,13 +14,13 @@ use Rattle.doc_rules.specs.PlainTexts.{headings_in, leaf_headings, table_texts, 
 use Rattle.doc_rules.specs.Tables.{TableSource}
 use Rattle.doc_rules.specs.Reading.{inlines_of}
 use Rattle.doc_rules.specs.Html.{Output, characters, inlines_html, is_fresh, task_box, is_tight_inside, blocks_html, output_of}
-use Rattle.doc_rules.specs.Pages.{PageHeading, page_headings, pieces_of, document_anchors, document_page, page_of, encoded, rendered_of}
+use Rattle.doc_rules.specs.Pages.{PageHeading, page_headings, pieces_of, images_told, document_anchors, document_page, page_of, encoded, rendered_of}
 use Rattle.doc_html.specs.ProgressSteps.{Progress, begun, told, on_new_line, text_met, anchored, heading_met_at}
 use Rattle.doc_html.specs.TableSteps.{table_told}
 use Rattle.doc_html.specs.TellingSteps.{paragraph_told, text_told, heading_told, code_told, leaf_told, start_told, end_told, blocks_told}
-use Rattle.doc_html.specs.WrittenPageSteps.{page_told}
+use Rattle.doc_html.specs.WrittenPageSteps.{images_by, page_told}
 use Rattle.doc_html.proofs.TableLaws.{table_is}
-use Rattle.doc_html.proofs.TellingLaws.{anchors_for, writing_of, blocks_at}
+use Rattle.doc_html.proofs.TellingLaws.{anchors_for, writing_of, blocks_at, blocks_keep}
 
 -- the headings and the texts of a page, where these headings and texts come
 page_rest : Progress → List (ℕ × Text) → List Text → List PageHeading × List Text
@@ -58,6 +59,11 @@ heading_rest (Some used) level text p more texts =
     let heading : PageHeading = record { level = level; anchor = anchor; text = text } in
     ap (λ hs. (hs, (p.texts ++ text ∷ []) ++ texts)) (append_assoc p.headings (heading ∷ []) rest)
     ∙ ap (λ ts. (p.headings ++ (heading ∷ rest), ts)) (append_assoc p.texts (text ∷ []) texts)
+
+-- the page of this output, these headings and texts, its images told or not
+abbrev made : Bool → Output → List PageHeading × List Text → Rendered
+made tells output rest =
+    encoded (record { pieces = pieces_of output; headings = rest.0; texts = rest.1; images = images_by tells output })
 
 module _ (rules : Rules) (refs : List Definition) where
   paragraph_rest : (tight : Bool) (inside : Output) (p : Progress) (more : List (ℕ × Text)) (texts : List Text)
@@ -144,7 +150,7 @@ module _ (rules : Rules) (refs : List Definition) where
 
   module _ (blocks : Blocks) (shown : List ℕ → Shown) where
     abbrev all : Progress
-    all = blocks_told rules refs false blocks (begun shown (Some []))
+    all = blocks_told rules refs false blocks (begun shown rules.images (Some []))
 
     abbrev anchors : List Text
     anchors = document_anchors rules (record { blocks = blocks; refs = refs })
@@ -165,7 +171,7 @@ module _ (rules : Rules) (refs : List Definition) where
               (anchors_behind [] (map (λ heading. heading.1) (headings_in rules refs blocks ++ []))),
           texts_in rules refs blocks ++ [],
         )
-        whole = blocks_rest false blocks (begun shown (Some [])) [] []
+        whole = blocks_rest false blocks (begun shown rules.images (Some [])) [] []
 
     output_told : all.output ≡ output_of rules anchors (record { blocks = blocks; refs = refs })
     unfolding output_of document_anchors writing_of anchors_for
@@ -180,17 +186,17 @@ module _ (rules : Rules) (refs : List Definition) where
               output = [];
               anchors = anchors_behind [] (map (λ heading. heading.1) (headings_in rules refs blocks ++ []));
             })).output ≡ all.output
-        whole = ap (λ w. w.output) (blocks_at rules refs false blocks (begun shown (Some [])) [])
+        whole = ap (λ w. w.output) (blocks_at rules refs false blocks (begun shown rules.images (Some [])) [])
+
+    telling : all.manner.images ≡ rules.images
+    telling = ap (λ m. m.images) (blocks_keep rules refs false blocks (begun shown rules.images (Some [])))
 
     pub page_is : page_told all ≡ encoded (document_page rules (record { blocks = blocks; refs = refs }))
-    unfolding document_page
+    unfolding document_page images_told
     page_is =
-        ap (λ o. encoded (record { pieces = pieces_of o; headings = all.headings; texts = all.texts })) output_told
-        ∙ ap (λ r. encoded (record {
-          pieces = pieces_of (output_of rules anchors (record { blocks = blocks; refs = refs }));
-          headings = r.0;
-          texts = r.1;
-        })) rest_told
+        ap (λ b. made b all.output (all.headings, all.texts)) telling
+        ∙ (ap (λ o. made rules.images o (all.headings, all.texts)) output_told
+        ∙ ap (made rules.images (output_of rules anchors (record { blocks = blocks; refs = refs }))) rest_told)
 
 pub text_page : (rules : Rules) (text : Text) → encoded (document_page rules (document_of rules text)) ≡ rendered_of rules text
 unfolding page_of

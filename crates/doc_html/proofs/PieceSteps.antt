@@ -8,7 +8,7 @@ use Rattle.doc_page_parts.specs.declared.rendered.Piece.{Piece}
 use Rattle.doc_page_parts.specs.declared.rendered.Piece.TheVariants.{Html}
 use Rattle.doc_rules.specs.Characters.{Text}
 use Rattle.doc_rules.specs.Destinations.{Target}
-use Rattle.doc_rules.specs.Html.{LinkTag, Output, characters}
+use Rattle.doc_rules.specs.Html.{LinkTag, ImageNote, Output, characters}
 use Rattle.doc_rules.specs.Pages.{PagePiece, HtmlPiece, LinkPiece, onto_html, pieces_of, encoded_piece}
 use Rattle.doc_html.specs.WrittenPageSteps.{IsSplit}
 use Rattle.doc_html.proofs.WriterSteps.{characters_append}
@@ -42,6 +42,13 @@ unfolding characters pieces_of html_piece
 at_end [] = refl
 at_end (c ∷ rest) = ap (onto_html c) (at_end rest) ∙ onto_end c rest
 
+-- a note is in no piece
+beside_note : (text dest : Text) (more : Output)
+    → pieces_of (characters text ++ ImageNote dest ∷ more) ≡ pieces_of (characters text ++ more)
+unfolding characters pieces_of
+beside_note [] dest more = refl
+beside_note (c ∷ rest) dest more = ap (onto_html c) (beside_note rest dest more)
+
 -- ---- more is written
 
 pub split_begins : IsSplit [] [] []
@@ -67,6 +74,12 @@ split_link output cut behind t h more =
     ap pieces_of (append_assoc output (LinkTag t ∷ []) more)
     ∙ (h (LinkTag t ∷ more) ∙ (ap (λ o. cut ++ o) (before_link behind t more)
     ∙ link_behind cut (html_piece behind) (LinkPiece t) (pieces_of more)))
+
+pub split_note : (output : Output) (cut : List PagePiece) (behind dest : Text) → IsSplit output cut behind
+    → IsSplit (output ++ ImageNote dest ∷ []) cut behind
+split_note output cut behind dest h more =
+    ap pieces_of (append_assoc output (ImageNote dest ∷ []) more)
+    ∙ (h (ImageNote dest ∷ more) ∙ ap (λ o. cut ++ o) (beside_note behind dest more))
 
 pub split_ends : (output : Output) (cut : List PagePiece) (behind : Text) → IsSplit output cut behind
     → pieces_of output ≡ cut ++ html_piece behind

@@ -145,28 +145,28 @@ module _ (rules : Rules) (refs : List Definition) where
       ∙ (ap (container_end container) (blocks_at deeper inside (start_told container here) more)
       ∙ end_at container (blocks_told rules refs deeper inside (start_told container here)) more)))
 
--- ---- how links are shown stays
+-- ---- the manner stays
 
-line_keeps : (b : Bool) (p : Progress) → (elim b as (λ _. Progress) [ true ↦ p | false ↦ told (characters (codes "\n")) p ]).shown ≡ p.shown
+line_keeps : (b : Bool) (p : Progress) → (elim b as (λ _. Progress) [ true ↦ p | false ↦ told (characters (codes "\n")) p ]).manner ≡ p.manner
 line_keeps true p = refl
 line_keeps false p = refl
 
-on_line_keeps : (p : Progress) → (on_new_line p).shown ≡ p.shown
+on_line_keeps : (p : Progress) → (on_new_line p).manner ≡ p.manner
 unfolding on_new_line
 on_line_keeps p = line_keeps (is_fresh p.output) p
 
-heading_keeps : (used : Option (List Text)) (level : ℕ) (text : Text) (p : Progress) → (heading_met_at used level text p).shown ≡ p.shown
+heading_keeps : (used : Option (List Text)) (level : ℕ) (text : Text) (p : Progress) → (heading_met_at used level text p).manner ≡ p.manner
 unfolding heading_met_at text_met anchored
 heading_keeps None level text p = refl
 heading_keeps (Some used) level text p = refl
 
-paragraph_keeps : (tight : Bool) (inside : Output) (p : Progress) → (paragraph_told tight inside p).shown ≡ p.shown
+paragraph_keeps : (tight : Bool) (inside : Output) (p : Progress) → (paragraph_told tight inside p).manner ≡ p.manner
 unfolding paragraph_told
 paragraph_keeps true inside p = refl
 paragraph_keeps false inside p = on_line_keeps p
 
 leaf_keeps : (rules : Rules) (refs : List Definition) (tight : Bool) (leaf : Leaf) (p : Progress)
-    → (leaf_told rules refs tight leaf p).shown ≡ p.shown
+    → (leaf_told rules refs tight leaf p).manner ≡ p.manner
 unfolding leaf_told text_told heading_told code_told text_met
 leaf_keeps rules refs tight (Paragraph text) p = paragraph_keeps tight (characters [] ++ inlines_html 0 (inlines_of rules refs text))
     (text_met (text_in rules refs text) p)
@@ -177,24 +177,24 @@ leaf_keeps rules refs tight (IndentedCode text) p = on_line_keeps (text_met text
 leaf_keeps rules refs tight (FencedCode info text) p = on_line_keeps (text_met text p)
 leaf_keeps rules refs tight (HtmlBlock text) p = on_line_keeps (told (characters text) (on_new_line p)) ∙ on_line_keeps p
 leaf_keeps rules refs tight ThematicBreak p = on_line_keeps p
-leaf_keeps rules refs tight (TableBlock table) p = ap (λ q. q.shown) (table_is rules refs table p) ∙ on_line_keeps p
+leaf_keeps rules refs tight (TableBlock table) p = ap (λ q. q.manner) (table_is rules refs table p) ∙ on_line_keeps p
 leaf_keeps rules refs tight (Task done text) p =
     paragraph_keeps tight (characters (task_box done) ++ inlines_html 0 (inlines_of rules refs text)) (text_met (text_in rules refs text) p)
 
-start_keeps : (container : Container) (p : Progress) → (start_told container p).shown ≡ p.shown
+start_keeps : (container : Container) (p : Progress) → (start_told container p).manner ≡ p.manner
 unfolding start_told
 start_keeps BlockQuote p = on_line_keeps p
 start_keeps (ListBlock start tight) p = on_line_keeps p
 start_keeps ListItem p = refl
 
-end_keeps : (container : Container) (p : Progress) → (end_told container p).shown ≡ p.shown
+end_keeps : (container : Container) (p : Progress) → (end_told container p).manner ≡ p.manner
 unfolding end_told
 end_keeps BlockQuote p = on_line_keeps p
 end_keeps (ListBlock start tight) p = on_line_keeps p
 end_keeps ListItem p = refl
 
 pub blocks_keep : (rules : Rules) (refs : List Definition) (tight : Bool) (blocks : Blocks) (p : Progress)
-    → (blocks_told rules refs tight blocks p).shown ≡ p.shown
+    → (blocks_told rules refs tight blocks p).manner ≡ p.manner
 unfolding blocks_told
 blocks_keep rules refs tight none p = refl
 blocks_keep rules refs tight (before ▹ leaf) p = leaf_keeps rules refs tight leaf (blocks_told rules refs tight before p)
@@ -208,17 +208,17 @@ blocks_keep rules refs tight (node before container inside) p =
 -- ---- documents
 
 output_told : (rules : Rules) (refs : List Definition) (blocks : Blocks) (shown : List ℕ → Shown) →
-    (blocks_told rules refs false blocks (begun shown None)).output ≡ output_of rules [] (record { blocks = blocks; refs = refs })
+    (blocks_told rules refs false blocks (begun shown false None)).output ≡ output_of rules [] (record { blocks = blocks; refs = refs })
 unfolding output_of writing_of anchors_for
-output_told rules refs blocks shown = ap (λ w. w.output) (sym (blocks_at rules refs false blocks (begun shown None) []))
+output_told rules refs blocks shown = ap (λ w. w.output) (sym (blocks_at rules refs false blocks (begun shown false None) []))
 
 pub html_told : (rules : Rules) (refs : List Definition) (blocks : Blocks) (shown last : List ℕ
     → Shown) (bytes : List ℕ) (fresh : Bool) →
-    HoldsHtml last bytes fresh (blocks_told rules refs false blocks (begun shown None)) →
+    HoldsHtml last bytes fresh (blocks_told rules refs false blocks (begun shown false None)) →
     bytes ≡ html_bytes rules shown [] (record { blocks = blocks; refs = refs })
 unfolding html_bytes
 html_told rules refs blocks shown last bytes fresh h =
-    let same : last ≡ shown = sym h.shows ∙ blocks_keep rules refs false blocks (begun shown None) in
+    let same : last ≡ shown = sym h.shows ∙ ap (λ m. m.shown) (blocks_keep rules refs false blocks (begun shown false None)) in
     h.spelled
-    ∙ (ap (λ s. flat_map (written_bytes s) (blocks_told rules refs false blocks (begun shown None)).output) same
+    ∙ (ap (λ s. flat_map (written_bytes s) (blocks_told rules refs false blocks (begun shown false None)).output) same
     ∙ ap (flat_map (written_bytes shown)) (output_told rules refs blocks shown))

@@ -13,7 +13,7 @@ use Rattle.doc_page_parts.specs.Pages.{opening_tag}
 use Rattle.doc_rules.specs.Characters.{Text}
 use Rattle.doc_rules.specs.Destinations.{Target}
 use Rattle.doc_rules.specs.Escaping.{escaped_char, html_escape}
-use Rattle.doc_rules.specs.Html.{Written, Character, LinkTag, Output, characters, is_fresh}
+use Rattle.doc_rules.specs.Html.{Written, Character, LinkTag, ImageNote, Output, characters, is_fresh}
 use Rattle.doc_rules.proofs.EscapingLaws.{escaping_is_by_bytes}
 use Rattle.doc_html.specs.HtmlBytes.{written_bytes}
 use Rattle.doc_html.specs.ProgressSteps.{Progress, begun, told, on_new_line, text_met, heading_met, heading_met_at}
@@ -26,8 +26,10 @@ unfolding is_fresh
 last_at [] x = refl
 last_at (Character c ∷ []) x = refl
 last_at (LinkTag t ∷ []) x = refl
+last_at (ImageNote d ∷ []) x = refl
 last_at (Character c ∷ y ∷ more) x = last_at (y ∷ more) x
 last_at (LinkTag t ∷ y ∷ more) x = last_at (y ∷ more) x
+last_at (ImageNote d ∷ y ∷ more) x = last_at (y ∷ more) x
 
 character_last : (xs : Output) (c : ℕ) → is_fresh (xs ++ Character c ∷ []) ≡ (c == 10)
 unfolding is_fresh
@@ -36,6 +38,10 @@ character_last xs c = last_at xs (Character c)
 pub tag_last : (xs : Output) (t : Target) → false ≡ is_fresh (xs ++ LinkTag t ∷ [])
 unfolding is_fresh
 tag_last xs t = sym (last_at xs (LinkTag t))
+
+pub note_last : (xs : Output) (dest : Text) → false ≡ is_fresh (xs ++ ImageNote dest ∷ [])
+unfolding is_fresh
+note_last xs dest = sym (last_at xs (ImageNote dest))
 
 pub fresh_text : (xs : Output) (text : Text) → fresh_behind (is_fresh xs) text ≡ is_fresh (xs ++ characters text)
 unfolding characters fresh_behind
@@ -169,6 +175,13 @@ holds_more shown old new add fresh after p x h e f g = record {
       ∙ (ap (λ t. flat_map (written_bytes shown) p.output ++ t) g ∙ sym (flat_map-append (written_bytes shown) p.output x)));
 }
 
+-- of an image nothing is shown
+pub holds_image : (shown : List ℕ → Shown) (bytes : List ℕ) (fresh : Bool) (p : Progress) (dest : Text) → HoldsHtml shown bytes fresh p
+    → HoldsHtml shown bytes false (told (ImageNote dest ∷ []) p)
+unfolding written_bytes
+holds_image shown bytes fresh p dest h =
+    holds_more shown bytes bytes [] fresh false p (ImageNote dest ∷ []) h (sym (append-nil bytes)) (note_last p.output dest) refl
+
 pub holds_line : (shown : List ℕ → Shown) (bytes : List ℕ) (fresh : Bool) (p : Progress) → HoldsHtml shown bytes fresh p → fresh ≡ true
     → HoldsHtml shown bytes fresh (on_new_line p)
 unfolding on_new_line
@@ -206,6 +219,6 @@ unfolding heading_met_at
 holds_heading shown bytes fresh p level text h =
     subst (λ u. HoldsHtml shown bytes fresh (heading_met_at u level text p)) (sym h.unnamed) (holds_text shown bytes fresh p text h)
 
-pub holds_nothing : (shown : List ℕ → Shown) (bytes : List ℕ) → bytes ≡ [] → HoldsHtml shown bytes true (begun shown None)
+pub holds_nothing : (shown : List ℕ → Shown) (bytes : List ℕ) → bytes ≡ [] → HoldsHtml shown bytes true (begun shown false None)
 unfolding is_fresh
 holds_nothing shown bytes e = record { shows = refl; unnamed = refl; begins = refl; spelled = e }

@@ -1,5 +1,5 @@
 -- What was made of a document so far: what is written, and what a page keeps beside it.
-use Rattle.std.specs.Prelude.{ℕ, true, false, List, [], ◌∷◌, ◌++◌, codes, Option, Some, None}
+use Rattle.std.specs.Prelude.{ℕ, Bool, true, false, List, [], ◌∷◌, ◌++◌, codes, Option, Some, None}
 use Rattle.doc_page_parts.specs.declared.linker.Shown.{Shown}
 use Rattle.doc_rules.specs.Characters.{Text}
 use Rattle.doc_rules.specs.Anchors.{anchor_name, free_anchor}
@@ -7,14 +7,19 @@ use Rattle.doc_rules.specs.Escaping.{html_escape}
 use Rattle.doc_rules.specs.Html.{Output, characters, is_fresh}
 use Rattle.doc_rules.specs.Pages.{PageHeading}
 
--- what is written, the anchors that are used (the last one first) where headings get anchors, the headings and texts met, and how links are
--- shown
+-- how links are shown, and whether images are told
+pub record Manner : Type 0 where
+  pub shown : List ℕ → Shown
+  pub images : Bool
+
+-- what is written, the anchors that are used (the last one first) where headings get anchors, the headings and texts met, and the manner in
+-- which all of it is written
 pub record Progress : Type 0 where
   pub output : Output
   pub used : Option (List Text)
   pub headings : List PageHeading
   pub texts : List Text
-  pub shown : List ℕ → Shown
+  pub manner : Manner
 
 -- more is written
 abbrev pub told : Output → Progress → Progress
@@ -35,7 +40,7 @@ anchored level text used anchor p = record {
   used = Some (anchor ∷ used);
   headings = p.headings ++ record { level = level; anchor = anchor; text = text } ∷ [];
   texts = p.texts ++ text ∷ [];
-  shown = p.shown;
+  manner = p.manner;
 }
 
 -- a heading is met: where headings get anchors, the next one is written
@@ -54,6 +59,7 @@ Goes holds old new step = (p : Progress) → holds old p → holds new (step p)
 abbrev pub Writes : {W : Type 0} → (W → Progress → Type 0) → W → W → Output → Type 0
 Writes holds old new output = Goes holds old new (told output)
 
--- nothing is written yet, where links are shown like this
-abbrev pub begun : (List ℕ → Shown) → Option (List Text) → Progress
-begun shown used = record { output = []; used = used; headings = []; texts = []; shown = shown }
+-- nothing is written yet, where links are shown like this and images are told or not
+abbrev pub begun : (List ℕ → Shown) → Bool → Option (List Text) → Progress
+begun shown images used =
+    record { output = []; used = used; headings = []; texts = []; manner = record { shown = shown; images = images } }

@@ -1,11 +1,11 @@
 -- What a writer of pages holds.
-use Rattle.std.specs.Prelude.{◌≡◌, ℕ, Bool, List, ◌++◌, map, encode_utf8_all, Some}
+use Rattle.std.specs.Prelude.{◌≡◌, ℕ, Bool, List, [], ◌++◌, map, encode_utf8_all, Some, if◌then◌else◌}
 use Rattle.doc_page_parts.specs.declared.rendered.Piece.{Piece}
 use Rattle.doc_page_parts.specs.declared.rendered.Heading.{Heading}
 use Rattle.doc_page_parts.specs.declared.rendered.Rendered.{Rendered}
 use Rattle.doc_rules.specs.Characters.{Text}
 use Rattle.doc_rules.specs.Html.{Output, characters, is_fresh}
-use Rattle.doc_rules.specs.Pages.{PagePiece, pieces_of, encoded_piece, encoded_heading, encoded}
+use Rattle.doc_rules.specs.Pages.{PagePiece, pieces_of, images_in, encoded_piece, encoded_heading, encoded}
 use Rattle.doc_html_anchors.specs.Uses.{Uses}
 use Rattle.doc_html.specs.ProgressSteps.{Progress}
 
@@ -13,9 +13,13 @@ use Rattle.doc_html.specs.ProgressSteps.{Progress}
 abbrev pub IsSplit : Output → List PagePiece → Text → Type 0
 IsSplit output pieces behind = (more : Output) → pieces_of (output ++ more) ≡ pieces ++ pieces_of (characters behind ++ more)
 
--- these pieces and the HTML behind them are what was written, with these headings, texts and anchors so far
+-- the destinations of the images in what is written, where they are told
+abbrev pub images_by : Bool → Output → List Text
+images_by tells output = if tells then images_in output else []
+
+-- these pieces and the HTML behind them are what was written, with these headings, texts, images and anchors so far
 pub record HoldsPage (pieces : List Piece) (html : List ℕ) (fresh : Bool) (anchors : List Text) (headings : List Heading)
-    (texts : List (List ℕ)) (p : Progress) : Type 0 where
+    (texts : List (List ℕ)) (tells : Bool) (images : List (List ℕ)) (p : Progress) : Type 0 where
   pub cut : List PagePiece
   pub behind : Text
   pub used : List Text
@@ -27,7 +31,14 @@ pub record HoldsPage (pieces : List Piece) (html : List ℕ) (fresh : Bool) (anc
   pub uses : Uses anchors used
   pub headings_are : headings ≡ map encoded_heading p.headings
   pub texts_are : texts ≡ map encode_utf8_all p.texts
+  pub telling : tells ≡ p.manner.images
+  pub images_are : images ≡ map encode_utf8_all (images_by tells p.output)
 
 -- the page of what was made of a document
 abbrev pub page_told : Progress → Rendered
-page_told p = encoded (record { pieces = pieces_of p.output; headings = p.headings; texts = p.texts })
+page_told p = encoded (record {
+  pieces = pieces_of p.output;
+  headings = p.headings;
+  texts = p.texts;
+  images = images_by p.manner.images p.output;
+})

@@ -8,7 +8,7 @@ use Rattle.doc_html.specs.ProgressSteps.{Progress}
 
 -- these bytes are what was written, its links as the linker shows them, in UTF-8; headings get no anchors
 pub record HoldsHtml (shown : List ℕ → Shown) (bytes : List ℕ) (fresh : Bool) (p : Progress) : Type 0 where
-  pub shows : p.shown ≡ shown
+  pub shows : p.manner.shown ≡ shown
   pub unnamed : p.used ≡ None
   pub begins : fresh ≡ is_fresh p.output
   pub spelled : bytes ≡ flat_map (written_bytes shown) p.output

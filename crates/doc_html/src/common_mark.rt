@@ -15,10 +15,11 @@ use doc_page_parts::rendered::Rendered;
 use std::marker::Model;
 use std::sync::ledger::{Blank, Ledger};
 
-/// Makes pages of CommonMark texts (0.31.2): their HTML, in the form of the specification's examples, cut at the opening tags of
-/// links; each heading with its level, its anchor and its plain text; and the plain text of each paragraph, heading and cell of a table and
-/// the content of each code block. Contracts see its rules (character references, and extensions that are read), how many calls were made,
-/// and what it cuts of the front of a text.
+/// Makes pages of CommonMark texts (0.31.2): their HTML, in the form of the specification's examples, cut at the opening tags of links;
+/// each heading with its level, its anchor and its plain text; and the plain text of each paragraph, heading and cell of a table and the
+/// content of each code block. Where the options say so, a page tells the destinations of its images too, in their order, but for those
+/// that stand in another's text. Contracts see its rules (character references, extensions that are read, and whether images are told), how
+/// many calls were made, and what it cuts of the front of a text.
 #[derive(Drop)]
 pub struct CommonMark<L: Ledger> {
     entities: Entities,

@@ -1,5 +1,5 @@
 //! One buffer into which HTML is written.
-ghost use Rattle.std.specs.Prelude.{◌≡◌, string_bytes, IfOk};
+ghost use Rattle.std.specs.Prelude.{◌≡◌, false, string_bytes, IfOk};
 ghost use Rattle.doc_html.specs.ProgressSteps.{begun};
 ghost use Rattle.doc_html.specs.WrittenSteps.{HoldsHtml, read_again};
 
@@ -26,7 +26,7 @@ impl<'l, K: Links> HtmlWriter<'l, K> {
     /// Nothing is written yet. There is room for so many bytes.
     pub(crate) fn new(heap: Heap, links: &'l K, room: usize) -> Result<Self, Memory>
         ensures { IfOk result (λ writer. HoldsHtml (K.shown writer.links.now)
-            (string_bytes writer.out) writer.fresh (begun (K.shown links.now) None)) }
+            (string_bytes writer.out) writer.fresh (begun (K.shown links.now) false None)) }
     {
         let out = String::with_capacity(heap, room)?;
         Ok(HtmlWriter {
@@ -71,6 +71,11 @@ impl<'l, K: Links> Writer for HtmlWriter<'l, K> {
         title_is_text(&title);
         self.links
             .push_tag(self.heap, &mut self.out, dest.get(), &title)?;
+        self.fresh = false;
+        Ok(())
+    }
+
+    fn image(&mut self, _dest: &str) -> Result<(), Memory> {
         self.fresh = false;
         Ok(())
     }

@@ -174,12 +174,13 @@ fn push_start<W: Writer>(writer: &mut W, heap: Heap, span: &SpanRef) -> Result<(
     }
 }
 
-/// Writes what stands before the text of an image.
+/// Notes an image, and writes what stands before its text.
 fn push_image_start<W: Writer>(writer: &mut W, heap: Heap, target: TargetRef) -> Result<(), Memory>
     ensures { OnOk result (Writes W.holds writer.old writer.new
         (span_start (rules.Image (named target.entry)))) }
 {
     let dest = target.dest(heap)?;
+    writer.image(dest.get())?;
     let src = url(heap, dest.get())?;
     markup(writer, "<img src=\"")?;
     writer.text(src.get())?;

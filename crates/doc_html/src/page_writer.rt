@@ -1,4 +1,4 @@
-//! The pieces, headings and texts of a page as they are written (this project's choice).
+//! The pieces, headings, texts and images of a page as they are written (this project's choice).
 ghost use Rattle.std.specs.Prelude.{◌≡◌, [], ◌++◌, List, Some, chars, codes, encode_utf8_all, string_bytes, IfOk, OnOk};
 ghost use Rattle.doc_page_parts.specs.Escaping.{escaped};
 ghost use Rattle.doc_page.specs.Plain.{html_pieces};
@@ -24,8 +24,8 @@ use doc_page_parts::list::List;
 use doc_page_parts::rendered::{Heading, LinkSpot, Piece, Rendered};
 use doc_page_parts::text::Text;
 
-/// A page so far: its pieces, the HTML behind the last link, the anchors that are used, its headings and its texts. It is fresh where
-/// nothing was written or a LF was written last.
+/// A page so far: its pieces, the HTML behind the last link, the anchors that are used, its headings, its texts and
+/// the destinations of its images, where it is to tell them. It is fresh where nothing was written or a LF was written last.
 #[derive(Drop)]
 pub(crate) struct PageWriter {
     heap: Heap,
@@ -35,13 +35,16 @@ pub(crate) struct PageWriter {
     anchors: Anchors,
     headings: Vec<Heading>,
     texts: Vec<Text>,
+    tells_images: bool,
+    images: Vec<Text>,
 }
 
 impl PageWriter {
-    /// Nothing is written yet.
-    pub(crate) fn new(heap: Heap) -> Self
+    /// Nothing is written yet. Images are told or not.
+    pub(crate) fn new(heap: Heap, tells_images: bool) -> Self
         ensures { HoldsPage result.pieces.items (string_bytes result.html) result.fresh
-            result.anchors result.headings.items result.texts.items (begun plain_shown (Some [])) }
+            result.anchors result.headings.items result.texts.items result.tells_images
+            result.images.items (begun plain_shown tells_images (Some [])) }
     {
         PageWriter {
             heap,
@@ -51,6 +54,8 @@ impl PageWriter {
             anchors: Anchors::new(heap),
             headings: Vec::new(heap),
             texts: Vec::new(heap),
+            tells_images,
+            images: Vec::new(heap),
         }
     }
 
@@ -58,7 +63,7 @@ impl PageWriter {
     pub(crate) fn into_page(self) -> Result<Rendered, Memory>
         ensures { (p : Progress)
             → HoldsPage self.pieces.items (string_bytes self.html) self.fresh self.anchors
-            self.headings.items self.texts.items p →
+            self.headings.items self.texts.items self.tells_images self.images.items p →
             IfOk result (λ page. page ≡ page_told p) }
     {
         let PageWriter {
@@ -69,6 +74,8 @@ impl PageWriter {
             anchors: _,
             mut headings,
             texts,
+            tells_images: _,
+            images,
         } = self;
         html.shrink_to_fit();
         push_last(&mut pieces, html)?;
@@ -78,12 +85,14 @@ impl PageWriter {
             pieces: List::new(pieces),
             headings: List::new(headings),
             texts: List::new(texts),
+            images: List::new(images),
         })
     }
 }
 
 impl Writer for PageWriter {
-    ghost holds = { λ w p. HoldsPage w.pieces.items (string_bytes w.html) w.fresh w.anchors w.headings.items w.texts.items p };
+    ghost holds = { λ w p. HoldsPage w.pieces.items (string_bytes w.html) w.fresh w.anchors w.headings.items
+        w.texts.items w.tells_images w.images.items p };
 
     fn text(&mut self, text: &str) -> Result<(), Memory> {
         self.html.push_str(text)?;
@@ -102,6 +111,16 @@ impl Writer for PageWriter {
         cut(self.heap, &mut self.pieces, &mut self.html)?;
         self.pieces.push(Piece::Link(spot))?;
         self.fresh = false;
+        Ok(())
+    }
+
+    fn image(&mut self, dest: &str) -> Result<(), Memory> {
+        self.fresh = false;
+        if !self.tells_images {
+            return Ok(());
+        }
+        let dest = Text::copy_of(self.heap, dest)?;
+        self.images.push(dest)?;
         Ok(())
     }
 

@@ -50,7 +50,7 @@ fn page_of_tags(
         arena: &arena,
         texts: &texts,
     };
-    let mut writer = PageWriter::new(heap);
+    let mut writer = PageWriter::new(heap, entities.images());
     push_all(&mut writer, &source, tags)?;
     let page = writer.into_page()?;
     Ok(page)

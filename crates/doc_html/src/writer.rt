@@ -1,7 +1,7 @@
 //! Where HTML is written.
 ghost use Rattle.std.specs.Prelude.{◌≡◌, [], ◌∷◌, true, chars, OnOk};
 ghost use Rattle.doc_rules.specs.Escaping.{html_escape};
-ghost use Rattle.doc_rules.specs.Html.{characters, LinkTag};
+ghost use Rattle.doc_rules.specs.Html.{characters, LinkTag, ImageNote};
 ghost use Rattle.doc_rules.specs.PlainTexts.{plain_text};
 ghost use Rattle.doc_inlines_marks.specs.Targets.{named};
 ghost use Rattle.doc_inlines_marks.specs.Views.{inlines_shown};
@@ -30,6 +30,11 @@ pub(crate) trait Writer {
     fn link(&mut self, target: TargetRef) -> Result<(), Memory>
         ensures { OnOk result (Writes holds self.old self.new
             (LinkTag (named target.entry) ∷ [])) };
+
+    /// Notes an image with this destination, of which nothing is written.
+    fn image(&mut self, dest: &str) -> Result<(), Memory>
+        ensures { OnOk result (Writes holds self.old self.new
+            (ImageNote (chars dest.now) ∷ [])) };
 
     /// Begins a line, where something stands on this one.
     fn new_line(&mut self) -> Result<(), Memory>

@@ -28,7 +28,7 @@ a_notice title site text =
     codes "<!DOCTYPE html>\n<html lang=\"en\">\n<head>\n<meta charset=\"utf-8\">\n"
     ++ codes "<meta name=\"viewport\" content=\"width=device-width, initial-scale=1\">\n"
     ++ codes "<meta name=\"color-scheme\" content=\"light dark\">\n<title>" ++ title ++ codes " " ++ dot ++ codes " " ++ site
-    ++ codes "</title>\n<link rel=\"icon\" href=\"data:,\">\n<link rel=\"stylesheet\" href=\"/style.css?4\">\n</head>\n<body>\n"
+    ++ codes "</title>\n<link rel=\"icon\" href=\"data:,\">\n<link rel=\"stylesheet\" href=\"/style.css?5\">\n</head>\n<body>\n"
     ++ codes "<div class=\"frame bare\">\n<main id=\".main\">\n<h1>" ++ title ++ codes "</h1>\n" ++ text
     ++ codes "</main>\n</div>\n</body>\n</html>\n"
 

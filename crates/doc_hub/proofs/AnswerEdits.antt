@@ -1,9 +1,12 @@
 -- The edit that goes with an answer: what holds of no edit, of that of the response, and of that of the response to a request that edits,
 -- holds of it.
-use Rattle.std.proofs.Common.{List, ℕ, Bool, true, false}
+use Rattle.std.proofs.Common.{◌≡◌, List, ℕ, Bool, true, false, refl, sym, subst}
 use Rattle.std.specs.Prelude.{not, ◌&&◌, ◌||◌, ◌==◌, Option, Some, None, ⊤, if◌then◌else◌}
 use Rattle.doc_http.specs.declared.request.Request.{Request}
 use Rattle.doc_http_replies.specs.Heads.{Dress}
+use Rattle.doc_media.specs.Media.{Beside, Media, beside_of}
+use Rattle.doc_hub_media.proofs.MediaLaws.{media_edit_nothing}
+use Rattle.doc_hub_media.specs.MediaAnswers.{MediaResponse, media_answer, media_response}
 use Rattle.doc_hub_answers.proofs.AnswerEdits.{response_can}
 use Rattle.doc_hub_answers.specs.Edits.{CanBeMade, puts_taken}
 use Rattle.doc_hub_answers.specs.Replies.{Renders, Response, plain_answer, refused, response_to}
@@ -14,8 +17,9 @@ use Rattle.doc_hub_editing.specs.EditAnswers.{edit_response}
 use Rattle.doc_hub_editing.specs.EditResponses.{EditingResponse}
 use Rattle.doc_hub_asking.specs.Asking.{Asking, is_guest, row_of}
 use Rattle.doc_hub_replies.specs.PeopleAnswers.{people_reply}
-use Rattle.doc_hub_replies.specs.Answers.{answer_by, answer_of, asks_for_style, dress_for, edited_or, is_for_people, kept_from_guests}
-use Rattle.doc_hub_replies.specs.Answers.{people_answer, style_answer, unedited}
+use Rattle.doc_hub_replies.specs.Answers.{answer_by, answer_of, asks_for_style, dress_by, dress_for, edited_or, is_for_people}
+use Rattle.doc_hub_replies.specs.Answers.{kept_from_guests}
+use Rattle.doc_hub_replies.specs.Answers.{media_or, people_answer, style_answer, unedited}
 use Rattle.doc_people.specs.declared.settings.Browse.{Browse}
 use Rattle.doc_people.specs.declared.settings.Settings.{Settings}
 use Rattle.doc_store.specs.Store.{StoreState}
@@ -46,28 +50,41 @@ module _ (P : Option Edit → Type 0) (nothing : P None) where
   edited None dress close request other holds also = also
   edited (Some response) dress close request other holds also = holds
 
-  module _ (render : Renders) (view : View) (asking : Asking) (left : Bool) (request : Request)
-      (holds : HoldsBefore (response_to render view (row_of asking) left request)) where
-    pub not_editing : (browse : Browse) (close : Bool) → Holds (unedited browse render view asking left close request)
+  -- what media have a part in makes no edit
+  beside : (found : Option MediaResponse) (dress : Dress) (close : Bool) (request : Request) (other : Answer)
+      → ((response : MediaResponse) → found ≡ Some response → (media_answer dress response close request).edit ≡ None)
+      → Holds other → Holds (media_or found dress close request other)
+  beside None dress close request other none holds = holds
+  beside (Some response) dress close request other none holds = subst P (sym (none response refl)) nothing
+
+  module _ (render : Renders) (view : View) (media : Beside) (asking : Asking) (left : Bool) (request : Request)
+      (holds : HoldsBefore (response_to render view media (row_of asking) left request)) where
+    pub not_editing : (browse : Browse) (close : Bool) → Holds (unedited browse render view media asking left close request)
     not_editing browse close =
-        let response : Response = response_to render view (row_of asking) left request in
+        let response : Response = response_to render view media (row_of asking) left request in
         let plain : Answer = plain_answer (dress_for browse asking) (kept_from_guests (is_guest asking) response) close request in
-        let page : Answer = people_answer (people_reply render browse view asking request) close request in
+        let page : Answer = people_answer (people_reply render browse view media asking request) close request in
         either (is_for_people request) page plain nothing (kept_if (is_guest asking && response.reply.code == 403) response holds)
 
-    by_browse : ((browse : Browse) → HoldsFor P (edit_response render browse view asking left (is_for_people request) request))
-        → (browse : Option Browse) (close : Bool) → Holds (answer_by browse render view asking left close request)
+    by_browse : ((browse : Browse) → HoldsFor P (edit_response render browse view media asking left (is_for_people request) request))
+        → (browse : Option Browse) (close : Bool) → Holds (answer_by browse render view media asking left close request)
     by_browse edits None close = holds
     by_browse edits (Some browse) close =
-        let found : Option EditingResponse = edit_response render browse view asking left (is_for_people request) request in
-        let other : Answer = unedited browse render view asking left close request in
+        let found : Option EditingResponse = edit_response render browse view media asking left (is_for_people request) request in
+        let other : Answer = unedited browse render view media asking left close request in
         either (asks_for_style request) (style_answer close request) (edited_or found (dress_for browse asking) close request other) nothing
         (edited found (dress_for browse asking) close request other (edits browse) (not_editing browse close))
 
-    pub answer_holds : ((browse : Browse) → HoldsFor P (edit_response render browse view asking left (is_for_people request) request))
-        → (settings : Settings) → P (answer_of settings render view asking left request).edit
+    pub answer_holds : ((browse : Browse) → HoldsFor P (edit_response render browse view media asking left (is_for_people request) request))
+        → (settings : Settings) → P (answer_of settings render view media asking left request).edit
     unfolding answer_of
-    answer_holds edits settings = by_browse edits settings.browse (request.close || not settings.keep_alive)
+    answer_holds edits settings =
+        let close : Bool = request.close || not settings.keep_alive in
+        let found : Option MediaResponse = media_response settings.browse render view media asking (is_for_people request) request in
+        beside found (dress_by settings.browse asking) close request (answer_by settings.browse render view media asking left close request)
+        (media_edit_nothing settings.browse render view media asking (is_for_people request) close request
+        (dress_by settings.browse asking))
+        (by_browse edits settings.browse close)
 
 can_holds : (store : StoreState) (text : List ℕ) (found : Option EditingResponse) → EditingCan store text found
     → HoldsFor (CanBeMade store text) found
@@ -75,13 +92,16 @@ can_holds store text None can = tt
 can_holds store text (Some response) can = can
 
 -- the edit can be made
-pub answer_can_be_made : (takes : Bool) (render : Renders) (settings : Settings) (store : StoreState) (asking : Asking)
+pub answer_can_be_made : (takes : Bool) (render : Renders) (settings : Settings) (media : Media) (store : StoreState) (asking : Asking)
     (request : Request)
     → CanBeMade store request.body
-    (answer_of settings render (view_of store.site (row_of asking)) asking (puts_taken takes store.puts) request).edit
-answer_can_be_made takes render settings store asking request =
-    answer_holds (CanBeMade store request.body) tt render (view_of store.site (row_of asking)) asking (puts_taken takes store.puts) request
-    (response_can takes render store (row_of asking) request)
+    (answer_of settings render (view_of store.site (row_of asking)) (beside_of media (row_of asking)) asking (puts_taken takes store.puts)
+    request).edit
+answer_can_be_made takes render settings media store asking request =
+    answer_holds (CanBeMade store request.body) tt render (view_of store.site (row_of asking)) (beside_of media (row_of asking)) asking
+    (puts_taken takes store.puts) request
+    (response_can takes render (beside_of media (row_of asking)) store (row_of asking) request)
     (λ browse. can_holds store request.body
-    (edit_response render browse (view_of store.site (row_of asking)) asking (puts_taken takes store.puts) (is_for_people request) request)
-    (edit_response_can takes render browse store asking (is_for_people request) request)) settings
+    (edit_response render browse (view_of store.site (row_of asking)) (beside_of media (row_of asking)) asking (puts_taken takes store.puts)
+    (is_for_people request) request)
+    (edit_response_can (beside_of media (row_of asking)) takes render browse store asking (is_for_people request) request)) settings

@@ -6,7 +6,7 @@ use Rattle.std.specs.List.{list_any}
 use Rattle.doc_page_parts.specs.Refusals.{Gives}
 use Rattle.doc_shelf.specs.Shelves.{rendered_for}
 use Rattle.doc_store_readers.specs.Pages.{Page}
-use Rattle.doc_store.specs.Store.{StoreState, fits_in, may_move, move_page, moved_by, put_by, remove_page, set_page}
+use Rattle.doc_store.specs.Store.{StoreState, move_page, moved_by, put_by, remove_page, set_page}
 use Rattle.doc_store.specs.declared.moving.MoveError.{MoveError}
 use Rattle.doc_store.specs.declared.moving.MoveError.TheVariants as move_errors
 use Rattle.doc_store.specs.declared.store.EditError.{EditError}
@@ -19,7 +19,7 @@ use Rattle.doc_hub.specs.EditLaws.{Makes, made_if}
 use Rattle.doc_hub_events.specs.Events.{Said, SaidOn, SaidSite, moving, outcome_of, outcome_of_site, outcome_on, putting}
 use Rattle.doc_hub_answers.specs.Replies.{Renders}
 use Rattle.doc_hub.specs.Runs.{Happened, Happens, HappensOn, HappensSite, Leaves, nothing}
-use Rattle.doc_hub.specs.Worlds.{World, connected, last_id, store_of, with_store, world_pushed}
+use Rattle.doc_hub.specs.Worlds.{World, connected, last_id, may_move_beside, may_put, store_of, with_store, world_pushed}
 use Rattle.doc_hub_events.specs.declared.event.ConnId.{ConnId}
 use Rattle.doc_store.specs.declared.site_edit.SiteEdit.{SiteEdit}
 use Rattle.doc_store.specs.declared.site_edit.SiteEdit.TheVariants as site_edits
@@ -146,10 +146,11 @@ module _ (render : Renders) (rendered rendered' : ℕ) (w v : World) where
   site_counts : (edit : SiteEdit) (said : SaidSite edit) → HappensSite w edit v said → CountsSite rendered w rendered' edit
       → CountedHere (events.Site edit) (outcome_of_site edit said)
   site_counts (site_edits.Put path groups text) said h more =
-      put_counts path (record { groups = groups; text = text }) (map.contains_key w.site.pages path) (fits_in (store_of w) path text) said
+      put_counts path (record { groups = groups; text = text }) (map.contains_key w.site.pages path)
+      (may_put w.media (store_of w) path text) said
       h more
   site_counts (site_edits.Remove path) said h same = removal_counts path said h same
-  site_counts (site_edits.Move from to) said h same = move_counts from to (may_move (store_of w) from to) said h same
+  site_counts (site_edits.Move from to) said h same = move_counts from to (may_move_beside w.media (store_of w) from to) said h same
 
   event_counts : (event : Event) (said : Said event) → Happens render w event v said → CountsFor render rendered w rendered' v event said
       → CountedHere event (outcome_of event said)

@@ -6,6 +6,7 @@ use Rattle.doc_http_targets.specs.EditTargets.{EditRoute, edit_route_of}
 use Rattle.doc_http_targets.specs.EditTargets as edit_routes
 use Rattle.doc_http_targets.specs.Targets.{Route, route_of}
 use Rattle.doc_http_targets.specs.Targets as routes
+use Rattle.doc_media.specs.Media.{Beside}
 use Rattle.doc_people.specs.declared.settings.Browse.{Browse}
 use Rattle.doc_people.specs.declared.settings.Offers.{Offers}
 use Rattle.doc_store_readers.specs.Sites.{View}
@@ -118,55 +119,57 @@ request_puts browse request takes = by browse.editing takes
 
 -- ---- and else the answer is the same
 
-module _ (render : Renders) (browse : Browse) (view : View) (left other for_people : Bool) (request : Request) where
+module _ (render : Renders) (browse : Browse) (view : View) (media : Beside) (left other for_people : Bool) (request : Request) where
   same_owner : (offers : Offers) (what : EditRequest) → (takes_put what ≡ true → left ≡ other)
-      → by_owner render browse offers view left for_people request what ≡ by_owner render browse offers view other for_people request what
+      → by_owner render browse offers view media left for_people request what
+      ≡ by_owner render browse offers view media other for_people request what
   same_owner offers (requests.ReadSource rest) same = refl
   same_owner offers (requests.PutSource rest) same =
-      ap (λ l. by_owner render browse offers view l for_people request (requests.PutSource rest)) (same refl)
+      ap (λ l. by_owner render browse offers view media l for_people request (requests.PutSource rest)) (same refl)
   same_owner offers (requests.PutPage rest) same =
-      ap (λ l. by_owner render browse offers view l for_people request (requests.PutPage rest)) (same refl)
+      ap (λ l. by_owner render browse offers view media l for_people request (requests.PutPage rest)) (same refl)
   same_owner offers (requests.Remove rest) same = refl
   same_owner offers (requests.Regroup rest) same =
-      ap (λ l. by_owner render browse offers view l for_people request (requests.Regroup rest)) (same refl)
+      ap (λ l. by_owner render browse offers view media l for_people request (requests.Regroup rest)) (same refl)
   same_owner offers (requests.Move rest) same =
-      ap (λ l. by_owner render browse offers view l for_people request (requests.Move rest)) (same refl)
+      ap (λ l. by_owner render browse offers view media l for_people request (requests.Move rest)) (same refl)
   same_owner offers (requests.Open rest) same = refl
   same_owner offers (requests.Preview rest) same = refl
   same_owner offers (requests.NotAllowed resource) same = refl
 
   same_if : (offers : Offers) (guest owner : Bool) (what : EditRequest) → (owner ≡ true → takes_put what ≡ true → left ≡ other)
       → ◌≡◌ {A = EditingResponse}
-      (if owner then by_owner render browse offers view left for_people request what
+      (if owner then by_owner render browse offers view media left for_people request what
       else by_other render browse offers view guest for_people what)
-      (if owner then by_owner render browse offers view other for_people request what
+      (if owner then by_owner render browse offers view media other for_people request what
       else by_other render browse offers view guest for_people what)
   same_if offers guest true what same = same_owner offers what (same refl)
   same_if offers guest false what same = refl
 
   same_entry : (guest : Bool) (row : Reader) (what : EditRequest) → (row.owner ≡ true → takes_put what ≡ true → left ≡ other)
-      → by_entry render browse view guest row left for_people request what
-      ≡ by_entry render browse view guest row other for_people request what
+      → by_entry render browse view media guest row left for_people request what
+      ≡ by_entry render browse view media guest row other for_people request what
   same_entry guest row what same = same_if (offers_for browse guest row.owner) guest row.owner what same
 
   same_by : (asking : Asking) (what : EditRequest)
       → ((row : Reader) → row.owner ≡ true → row_of asking ≡ Some row → takes_put what ≡ true → left ≡ other)
-      → response_by render browse view asking left for_people request what
-      ≡ response_by render browse view asking other for_people request what
+      → response_by render browse view media asking left for_people request what
+      ≡ response_by render browse view media asking other for_people request what
   same_by asked.Nobody what same = refl
   same_by (asked.Guest row) what same = ap Some (same_entry true row what (λ owns takes. same row owns refl takes))
   same_by (asked.Known row) what same = ap Some (same_entry false row what (λ owns takes. same row owns refl takes))
 
   same_asked : (asking : Asking) (what : Option EditRequest)
       → ((row : Reader) → row.owner ≡ true → row_of asking ≡ Some row → takes_put_if what ≡ true → left ≡ other)
-      → response_if render browse view asking left for_people request what
-      ≡ response_if render browse view asking other for_people request what
+      → response_if render browse view media asking left for_people request what
+      ≡ response_if render browse view media asking other for_people request what
   same_asked asking None same = refl
   same_asked asking (Some what) same = same_by asking what same
 
   pub edit_response_alike : (asking : Asking)
       → ((row : Reader) → row.owner ≡ true → row_of asking ≡ Some row → method_of request.method ≡ Put → left ≡ other)
-      → edit_response render browse view asking left for_people request ≡ edit_response render browse view asking other for_people request
+      → edit_response render browse view media asking left for_people request
+      ≡ edit_response render browse view media asking other for_people request
   unfolding edit_response
   edit_response_alike asking same =
       same_asked asking (edit_request_of browse request)

@@ -25,11 +25,17 @@ use Rattle.doc_hub_editing.specs.EditRequests.{asked_by, at_page, at_route, edit
 use Rattle.doc_hub_editing.specs.Laws.{path_of_edit}
 use Rattle.doc_hub_asking.specs.Asking.{Asking, row_of}
 use Rattle.doc_hub_asking.specs.Asking as asked
-use Rattle.doc_hub_replies.specs.Answers.{answer_by, answer_of, dress_for, edited_or, is_for_people, style_answer, asks_for_style, unedited}
+use Rattle.doc_media.specs.Media.{Beside, beside_of}
+use Rattle.doc_http_replies.specs.Heads.{Dress}
+use Rattle.doc_hub_media.specs.MediaAnswers.{MediaResponse, media_answer, media_response}
+use Rattle.doc_hub_answers.specs.declared.answer.Answer.{Answer}
+use Rattle.doc_hub_replies.specs.Answers.{answer_by, answer_of, dress_by, dress_for, edited_or, media_or, is_for_people, style_answer}
+use Rattle.doc_hub_replies.specs.Answers.{asks_for_style, unedited}
 use Rattle.doc_hub.specs.EditingLaws.{IsEditedBy, NamesWhatStood, NoPageIsReplacedUnasked, NoUpdateIsLost, ReplacesNothing}
 use Rattle.doc_hub.specs.Runs.{Happened}
 use Rattle.doc_hub.specs.Worlds.{World, asking_of, reader_of}
 use Rattle.doc_hub.proofs.AnswerEdits.{not_editing}
+use Rattle.doc_hub_media.proofs.MediaLaws.{media_edit_nothing}
 
 absent : {X Y : Type 0} (x : X) → None ≡ Some x → Y
 absent {X = X} x is = absurd (unlike x is)
@@ -63,16 +69,16 @@ if_reads : (reply : Reply) (edit : Response) (reading : Bool) → edit.edit ≡ 
 if_reads reply edit true none = refl
 if_reads reply edit false none = none
 
-module _ (render : Renders) (view : View) (left : Bool) (request : Request) where
+module _ (render : Renders) (view : View) (beside : Beside) (left : Bool) (request : Request) where
   at_edits_nothing : (owner : Bool) (route : Option Route) → at_route route (method_of request.method) ≡ None
-      → (on_route render view owner left route request).edit ≡ None
+      → (on_route render view beside owner left route request).edit ≡ None
   at_edits_nothing owner None is = refl
   at_edits_nothing owner (Some route) is =
-      if_reads (reply_at render view route request) (plain.edit_at view owner left route request (method_of request.method))
+      if_reads (reply_at render view beside route request) (plain.edit_at view owner left route request (method_of request.method))
       (reads (method_of request.method)) (route_edits_nothing view owner left route request (method_of request.method) is)
 
   response_edits_nothing : (reader : Option Reader) → at_route (route_of request.target) (method_of request.method) ≡ None
-      → (response_to render view reader left request).edit ≡ None
+      → (response_to render view beside reader left request).edit ≡ None
   response_edits_nothing None is = refl
   response_edits_nothing (Some reader) is = at_edits_nothing reader.owner (route_of request.target) is
 
@@ -91,7 +97,7 @@ no_request browse request editing is =
 
 -- ---- each edit is that of the response to a request that edits
 
-module _ (render : Renders) (browse : Browse) (view : View) (left : Bool) (request : Request) (edit : Edit)
+module _ (render : Renders) (browse : Browse) (view : View) (beside : Beside) (left : Bool) (request : Request) (edit : Edit)
     (editing : browse.editing ≡ true)
   where
     -- whoever has this entry asked for it
@@ -100,20 +106,20 @@ module _ (render : Renders) (browse : Browse) (view : View) (left : Bool) (reque
       row : Reader
       what : EditRequest
       is_row : row_of asking ≡ Some row
-      is_edit : (by_entry render browse view guest row left (is_for_people request) request what).edit ≡ Some edit
+      is_edit : (by_entry render browse view beside guest row left (is_for_people request) request what).edit ≡ Some edit
 
-    not_unedited : (asking : Asking) (close : Bool) → (response_to render view (row_of asking) left request).edit ≡ None
-        → (unedited browse render view asking left close request).edit ≡ Some edit → Asked asking
+    not_unedited : (asking : Asking) (close : Bool) → (response_to render view beside (row_of asking) left request).edit ≡ None
+        → (unedited browse render view beside asking left close request).edit ≡ Some edit → Asked asking
     not_unedited asking close none is =
-        absent edit (sym (not_editing (λ e. e ≡ None) refl render view asking left request none browse close) ∙ is)
+        absent edit (sym (not_editing (λ e. e ≡ None) refl render view beside asking left request none browse close) ∙ is)
 
     by_request : (asking : Asking) (close : Bool) (what : Option EditRequest) → edit_request_of browse request ≡ what
-        → (edited_or (response_if render browse view asking left (is_for_people request) request what) (dress_for browse asking)
-        close request (unedited browse render view asking left close request)).edit ≡ Some edit
+        → (edited_or (response_if render browse view beside asking left (is_for_people request) request what) (dress_for browse asking)
+        close request (unedited browse render view beside asking left close request)).edit ≡ Some edit
         → Asked asking
     by_request asking close None none is =
         not_unedited asking close
-        (response_edits_nothing render view left request (row_of asking) (no_request browse request editing none)) is
+        (response_edits_nothing render view beside left request (row_of asking) (no_request browse request editing none)) is
     by_request asked.Nobody close (Some what) some is = not_unedited asked.Nobody close refl is
     by_request (asked.Guest row) close (Some what) some is =
         record { guest = true; row = row; what = what; is_row = refl; is_edit = is }
@@ -122,30 +128,43 @@ module _ (render : Renders) (browse : Browse) (view : View) (left : Bool) (reque
 
     by_style : (asking : Asking) (close style : Bool)
         → (if style then style_answer close request
-        else edited_or (edit_response render browse view asking left (is_for_people request) request) (dress_for browse asking)
-        close request (unedited browse render view asking left close request)).edit ≡ Some edit
+        else edited_or (edit_response render browse view beside asking left (is_for_people request) request) (dress_for browse asking)
+        close request (unedited browse render view beside asking left close request)).edit ≡ Some edit
         → Asked asking
     unfolding edit_response
     by_style asking close true is = absent edit is
     by_style asking close false is = by_request asking close (edit_request_of browse request) refl is
 
+    -- what media have a part in makes none
+    not_beside : (found : Option MediaResponse) (dress : Dress) (close : Bool) (other : Answer)
+        → ((response : MediaResponse) → found ≡ Some response → (media_answer dress response close request).edit ≡ None)
+        → (media_or found dress close request other).edit ≡ Some edit → other.edit ≡ Some edit
+    not_beside None dress close other none is = is
+    not_beside (Some response) dress close other none is = absent edit (sym (none response refl) ∙ is)
+
     edit_asked : (settings : Settings) (asking : Asking) → settings.browse ≡ Some browse
-        → (answer_of settings render view asking left request).edit ≡ Some edit → Asked asking
+        → (answer_of settings render view beside asking left request).edit ≡ Some edit → Asked asking
     unfolding answer_of
     edit_asked settings asking set is =
         let close : Bool = request.close || not settings.keep_alive in
+        let found : Option MediaResponse = media_response settings.browse render view beside asking (is_for_people request) request in
+        let other : Answer = answer_by settings.browse render view beside asking left close request in
         by_style asking close (asks_for_style request)
-        (sym (ap (λ b. (answer_by b render view asking left close request).edit) set) ∙ is)
+        (sym (ap (λ b. (answer_by b render view beside asking left close request).edit) set)
+        ∙ not_beside found (dress_by settings.browse asking) close other
+        (media_edit_nothing settings.browse render view beside asking (is_for_people request) close request
+        (dress_by settings.browse asking)) is)
 
     -- and that is an owner's
     owner_asked : (guest : Bool) (row : Reader) (what : EditRequest)
-        → (by_entry render browse view guest row left (is_for_people request) request what).edit ≡ Some edit → row.owner ≡ true
+        → (by_entry render browse view beside guest row left (is_for_people request) request what).edit ≡ Some edit → row.owner ≡ true
     owner_asked guest row what is = by row.owner refl
       where
         by : (owner : Bool) → row.owner ≡ owner → row.owner ≡ true
         by true owns = owns
         by false none =
-            absent edit (sym (owners_alone.edit_nothing render browse view guest row left (is_for_people request) request what none) ∙ is)
+            absent edit
+            (sym (owners_alone.edit_nothing render browse view beside guest row left (is_for_people request) request what none) ∙ is)
 
 -- ---- in a world
 
@@ -156,22 +175,28 @@ module _ (render : Renders) (h : Happened) (request : Request) (edit : Edit) (ed
   abbrev view : View
   view = view_of w.site (reader_of w request)
 
-  found : Asked render edited.browse view (puts_taken w.takes_puts w.puts) request edit edited.editing (asking_of w request)
+  abbrev beside : Beside
+  beside = beside_of w.media (reader_of w request)
+
+  found : Asked render edited.browse view beside (puts_taken w.takes_puts w.puts) request edit edited.editing (asking_of w request)
   found =
-      edit_asked render edited.browse view (puts_taken w.takes_puts w.puts) request edit edited.editing w.settings (asking_of w request) edited.settings
-      edited.made
+      edit_asked render edited.browse view beside (puts_taken w.takes_puts w.puts) request edit edited.editing w.settings
+      (asking_of w request)
+      edited.settings edited.made
 
   -- what stands for the owner who asked stands in the site
   stands_so : map.get w.site.pages (path_of_edit edit) ≡ page_at view.pages (path_of_edit edit)
   stands_so =
       sym (owner_page w.site found.row (path_of_edit edit)
-      (owner_asked render edited.browse view (puts_taken w.takes_puts w.puts) request edit edited.editing found.guest found.row found.what found.is_edit))
+      (owner_asked render edited.browse view beside (puts_taken w.takes_puts w.puts) request edit edited.editing found.guest found.row
+      found.what found.is_edit))
       ∙ ap (λ r. page_at (view_of w.site r).pages (path_of_edit edit)) (sym found.is_row)
 
 names_what_stood : (render : Renders) (h : Happened) → NamesWhatStood render h
 names_what_stood render h request edit value tags edited match names =
     let asks = found render h request edit edited in
-    let (page, stands, has) = edits_are_of_what_was_named render edited.browse (view render h request edit edited) asks.guest asks.row
+    let (page, stands, has) = edits_are_of_what_was_named render edited.browse (view render h request edit edited)
+    (beside render h request edit edited) asks.guest asks.row
     (puts_taken h.world.takes_puts h.world.puts) (is_for_people request) request asks.what edit value tags asks.is_edit match names in
     (page, stands_so render h request edit edited ∙ stands, has)
 
@@ -179,7 +204,8 @@ replaces_nothing : (render : Renders) (h : Happened) → ReplacesNothing render 
 replaces_nothing render h request edit value edited match names =
     let asks = found render h request edit edited in
     stands_so render h request edit edited
-    ∙ nothing_is_replaced_unasked render edited.browse (view render h request edit edited) asks.guest asks.row (puts_taken h.world.takes_puts h.world.puts)
+    ∙ nothing_is_replaced_unasked render edited.browse (view render h request edit edited)
+    (beside render h request edit edited) asks.guest asks.row (puts_taken h.world.takes_puts h.world.puts)
     (is_for_people request) request asks.what edit value asks.is_edit match names
 
 pub no_update_is_lost : NoUpdateIsLost

@@ -13,6 +13,7 @@ use Rattle.doc_store_readers.specs.declared.reader.Reader.{Reader}
 use Rattle.doc_http.specs.declared.request.Request.{Request}
 use Rattle.doc_http_targets.specs.Queries.{optional_parameter}
 use Rattle.doc_http_targets.specs.WrittenPaths.{path_written}
+use Rattle.doc_media.specs.Media.{Beside}
 use Rattle.doc_people.specs.declared.settings.Browse.{Browse}
 use Rattle.doc_people.specs.declared.settings.Offers.{Offers}
 use Rattle.doc_hub_answers.specs.Replies.{Renders, status_reply}
@@ -138,7 +139,7 @@ module _ (view : View) (left : Bool) (request : Request) where
   read_fits None = tt
   read_fits (Some path) = source_fits (page_at view.pages path) (goal_in view path)
 
-  module _ (render : Renders) (browse : Browse) (offers : Offers) (for_people : Bool) where
+  module _ (media : Beside) (render : Renders) (browse : Browse) (offers : Offers) (for_people : Bool) where
     none_fits : Fits (not_found render browse offers view for_people)
     none_fits = either for_people _ _ tt tt
 
@@ -154,7 +155,7 @@ module _ (view : View) (left : Bool) (request : Request) where
     open_fits rest = either (begins_path rest) (new_form render browse offers view for_people (folder_begun rest))
         (form_at render browse offers view for_people (path_written rest)) (new_fits (folder_begun rest)) (form_fits (path_written rest))
 
-    preview_fits : (path : Option (List ℕ)) → Fits (preview_at render browse view path request)
+    preview_fits : (path : Option (List ℕ)) → Fits (preview_at render browse view media path request)
     preview_fits None = tt
     preview_fits (Some path) = either (not request.markdown) _ _ tt (either (is_utf8 request.body) _ _ tt tt)
 
@@ -166,7 +167,7 @@ module _ (view : View) (left : Bool) (request : Request) where
 
     -- ---- whom
 
-    owner_fits : (what : EditRequest) → Fits (by_owner render browse offers view left for_people request what)
+    owner_fits : (what : EditRequest) → Fits (by_owner render browse offers view media left for_people request what)
     owner_fits (requests.ReadSource rest) = read_fits (path_written rest)
     owner_fits (requests.PutSource rest) = put_fits true (path_written rest) (written_is_path rest)
     owner_fits (requests.PutPage rest) = put_fits false (path_written rest) (written_is_path rest)
@@ -182,26 +183,26 @@ module _ (view : View) (left : Bool) (request : Request) where
     owner_fits (requests.Preview rest) = preview_fits (path_written rest)
     owner_fits (requests.NotAllowed resource) = tt
 
-  module _ (render : Renders) (browse : Browse) (for_people : Bool) where
+  module _ (media : Beside) (render : Renders) (browse : Browse) (for_people : Bool) where
     entry_fits : (guest : Bool) (reader : Reader) (what : EditRequest)
-        → Fits (by_entry render browse view guest reader left for_people request what)
+        → Fits (by_entry render browse view media guest reader left for_people request what)
     entry_fits guest reader what =
         let offers : Offers = offers_for browse guest reader.owner in
-        either reader.owner (by_owner render browse offers view left for_people request what)
-        (by_other render browse offers view guest for_people what) (owner_fits render browse offers for_people what)
-        (other_fits render browse offers for_people guest what)
+        either reader.owner (by_owner render browse offers view media left for_people request what)
+        (by_other render browse offers view guest for_people what) (owner_fits media render browse offers for_people what)
+        (other_fits media render browse offers for_people guest what)
 
     asked_fits : (asking : Asking) (what : EditRequest)
-        → HoldsFor AtPaths (response_by render browse view asking left for_people request what)
+        → HoldsFor AtPaths (response_by render browse view media asking left for_people request what)
     asked_fits asked.Nobody what = tt
     asked_fits (asked.Guest row) what = entry_fits true row what
     asked_fits (asked.Known row) what = entry_fits false row what
 
     if_fits : (asking : Asking) (what : Option EditRequest)
-        → HoldsFor AtPaths (response_if render browse view asking left for_people request what)
+        → HoldsFor AtPaths (response_if render browse view media asking left for_people request what)
     if_fits asking None = tt
     if_fits asking (Some what) = asked_fits asking what
 
-    pub edits_at_paths : (asking : Asking) → HoldsFor AtPaths (edit_response render browse view asking left for_people request)
+    pub edits_at_paths : (asking : Asking) → HoldsFor AtPaths (edit_response render browse view media asking left for_people request)
     unfolding edit_response
     edits_at_paths asking = if_fits asking (edit_request_of browse request)

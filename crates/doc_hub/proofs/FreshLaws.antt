@@ -13,6 +13,8 @@ use Rattle.doc_store_readers.specs.Readers.{ReaderTable}
 use Rattle.doc_store_readers.specs.Sites.{visible_to}
 use Rattle.doc_store.specs.Store.{put_limit}
 use Rattle.doc_store_readers.proofs.ViewLaw.{view_of_view}
+use Rattle.doc_media.specs.Media.{media_visible_to}
+use Rattle.doc_media.proofs.MediaLaws.{media_of_media}
 use Rattle.doc_http.specs.Passwords.{token_in}
 use Rattle.doc_hub_asking.specs.Asking.{asking_by, guest_of, known_by, known_of, login_of, row_of}
 use Rattle.doc_http.specs.Requests.{IsNext}
@@ -27,7 +29,7 @@ use Rattle.doc_hub.specs.FreshLaws.{LeavesPut, NewRepliesAsFresh, PutsAreLeft, R
 use Rattle.doc_hub.specs.FreshLaws.{TakesPut, first_connection, fresh, fresh_for, only_reader}
 use Rattle.doc_hub_answers.specs.Replies.{Renders}
 use Rattle.doc_hub.specs.Runs.{Happened, Leaves, Runs, nothing, first}
-use Rattle.doc_hub.specs.StepLaws.{Agree, AgreeOn, connection, is_owners_put, open_with, site_seen}
+use Rattle.doc_hub.specs.StepLaws.{Agree, AgreeOn, connection, is_owners_put, media_seen, open_with, site_seen}
 use Rattle.doc_hub.specs.Worlds.{World, Answers, StepsAt, asking_of, new_world, reader_of, stepped_by, token_of}
 use Rattle.doc_hub.specs.declared.connection.Connection.{Connection}
 use Rattle.doc_hub_events.specs.declared.event.ConnId.{ConnId}
@@ -76,15 +78,18 @@ asking_again guest login readers (Some value) =
 -- a world is alike for a request with its fresh server, where both take a put or no owner puts a page
 fresh_agrees : (puts : ℕ) (w : World) (request : Request) (unread : List ℕ)
     → (is_owners_put (reader_of w request) request ≡ true → puts_taken w.takes_puts w.puts ≡ true) → puts_left puts ≡ true
-    → Agree w (fresh puts (site_seen w request) (token_of w request) (known_of (asking_of w request)) w.settings unread) request
+    → Agree w
+    (fresh puts (site_seen w request) (media_seen w request) (token_of w request) (known_of (asking_of w request)) w.settings unread) request
 fresh_agrees puts w request unread room also =
-    let v : World = fresh puts (site_seen w request) (token_of w request) (known_of (asking_of w request)) w.settings unread in
+    let v : World =
+    fresh puts (site_seen w request) (media_seen w request) (token_of w request) (known_of (asking_of w request)) w.settings unread in
     let asking : asking_of w request ≡ asking_of v request =
     asking_again (guest_of w.settings.browse) (login_of w.settings.browse) w.readers request.authorization in
     record {
       settings = refl;
       asking = asking;
       sites = sym (view_of_view w.site (reader_of w request)) ∙ ap (λ a. visible_to v.site (row_of a)) asking;
+      beside = sym (media_of_media w.media (reader_of w request)) ∙ ap (λ a. media_visible_to v.media (row_of a)) asking;
       puts = λ owns. room owns ∙ sym also;
     }
 
@@ -201,11 +206,11 @@ none_before : (n : ℕ) → 0 + n ≡ n
 none_before n = omega arith
 
 pub new_replies_as_fresh : NewRepliesAsFresh
-new_replies_as_fresh render readers settings v run runs few =
-    always_as_fresh render (new_world readers settings) v run runs (ap (λ n. nat_lt n put_limit) (none_before (length run)) ∙ few)
+new_replies_as_fresh render readers settings media v run runs few =
+    always_as_fresh render (new_world readers settings media) v run runs (ap (λ n. nat_lt n put_limit) (none_before (length run)) ∙ few)
 
 pub puts_are_left : PutsAreLeft
-puts_are_left render readers settings v run runs few =
+puts_are_left render readers settings media v run runs few =
     let left = no_less v.puts (length run) put_limit
-    (subst (λ n. v.puts ≤ n) (none_before (length run)) (puts_are_counted render (new_world readers settings) v run runs)) few in
-    (left, λ others. taken_where v.takes_puts v.puts (taking_stands render (new_world readers settings) v run runs others) left)
+    (subst (λ n. v.puts ≤ n) (none_before (length run)) (puts_are_counted render (new_world readers settings media) v run runs)) few in
+    (left, λ others. taken_where v.takes_puts v.puts (taking_stands render (new_world readers settings media) v run runs others) left)

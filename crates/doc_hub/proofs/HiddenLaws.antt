@@ -1,4 +1,4 @@
--- What a reader sees of a site is the same without a page that they don't see.
+-- What a reader sees of a site and of its media is the same without a page or a medium that they don't see.
 use Rattle.std.proofs.Common.{◌≡◌, ℕ, List, Bool, true, false, bytes_eq, cond, not, refl, ap, sym, ◌∙◌}
 use Rattle.std.specs.Prelude.{Option, Some, None, option_and_then}
 use Rattle.std.specs.FinMap as map
@@ -7,15 +7,17 @@ use Rattle.std.proofs.lemmas.Map.Lookups.{exact_bytes}
 use Rattle.doc_store_readers.proofs.KeySteps.{bytes_eq_is, get_taken, same_from, same_key}
 use Rattle.doc_store_readers.proofs.ViewLaw.{get-visible_aliases, get-visible_pages}
 use Rattle.doc_store_readers.specs.declared.reader.Reader.{Reader}
-use Rattle.doc_store_readers.specs.Sites.{Site, View, may_see_at, visible_to}
+use Rattle.doc_store_readers.specs.Sites.{Site, View, may_see_at, view_of, visible_to}
+use Rattle.doc_media.specs.Media.{Media, beside_of, media_visible_to, site_of_media}
 use Rattle.doc_store.proofs.StoreSteps.{get-without_goal}
 use Rattle.doc_store.specs.Store.{is_goal}
 use Rattle.doc_shelf_pages.specs.Templates.{body_of}
 use Rattle.doc_http.specs.declared.request.Request.{Request}
 use Rattle.doc_http.specs.declared.request.Next.TheVariants as nexts
 use Rattle.doc_hub_answers.specs.Replies.{link_shown}
-use Rattle.doc_hub.proofs.StepLaws.{answers_alike, steps_alike}
-use Rattle.doc_hub.specs.HiddenLaws.{HiddenAsNone, IsHidden, LinksToHiddenAsToNone, site_without, world_without}
+use Rattle.doc_hub.proofs.StepLaws.{answers_alike, same_beside, steps_alike}
+use Rattle.doc_hub.specs.HiddenLaws.{HiddenAsNone, HiddenMediumAsNone, IsHidden, IsHiddenMedium, LinksToHiddenAsToNone}
+use Rattle.doc_hub.specs.HiddenLaws.{LinksToHiddenMediaAsToNone, media_without, site_without, world_without, world_without_medium}
 use Rattle.doc_hub.specs.StepLaws.{Agree}
 use Rattle.doc_hub.specs.Worlds.{World, reader_of}
 
@@ -76,6 +78,7 @@ agree w request path hidden = record {
   settings = refl;
   asking = refl;
   sites = seen_without w.site (reader_of w request) path hidden;
+  beside = refl;
   puts = λ _. refl;
 }
 
@@ -89,6 +92,38 @@ hidden_as_none = record {
       here there;
 }
 
+-- ---- media
+
+media_seen_without : (media : Media) (reader : Option Reader) (path : List ℕ) → IsHiddenMedium media reader path
+    → media_visible_to media reader ≡ media_visible_to (media_without media path) reader
+media_seen_without None reader path hidden = refl
+media_seen_without (Some held) reader path hidden =
+    ap (λ seen. Some seen) (pages_seen (site_of_media held) reader path hidden
+    ∙ map.same_map nat_list_cmp_total exact_bytes _ _ (λ q.
+    get-visible_pages (site_without (site_of_media held) path) reader q
+    ∙ sym (get-visible_pages (site_of_media (map.remove held path)) reader q)))
+
+agree_beside : (w : World) (request : Request) (path : List ℕ) → IsHiddenMedium w.media (reader_of w request) path
+    → Agree w (world_without_medium w path) request
+agree_beside w request path hidden = record {
+  settings = refl;
+  asking = refl;
+  sites = refl;
+  beside = media_seen_without w.media (reader_of w request) path hidden;
+  puts = λ _. refl;
+}
+
+pub hidden_medium_as_none : HiddenMediumAsNone
+hidden_medium_as_none = record {
+  answers = λ render w request path hidden.
+      answers_alike render w (world_without_medium w path) request (agree_beside w request path hidden);
+  steps = λ render w w' v' c used request path said told hidden begins here there.
+      steps_alike render w (world_without_medium w path) w' v' c c (nexts.Request used request) said told begins
+      (record { unread = begins.unread; stands = begins.stands; begins = begins.begins })
+      (agree_beside w request path hidden)
+      here there;
+}
+
 -- ---- links
 
 -- the view of what a site's cut is
@@ -98,7 +133,21 @@ seen site = record { pages = map.entries site.pages; aliases = map.entries site.
 pub links_to_hidden_as_to_none : LinksToHiddenAsToNone
 unfolding seen
 links_to_hidden_as_to_none = record {
-  links = λ site reader hidden page dest is. ap (λ cut. link_shown (seen cut) page dest) (seen_without site reader hidden is);
-  pages = λ site reader hidden page rendered is.
-      ap (λ cut. body_of page (link_shown (seen cut) page) rendered) (seen_without site reader hidden is);
+  links = λ site media reader hidden page dest is.
+      ap (λ cut. link_shown (seen cut) (beside_of media reader) page dest) (seen_without site reader hidden is);
+  pages = λ site media reader hidden page rendered is.
+      ap (λ cut. body_of page (link_shown (seen cut) (beside_of media reader) page) rendered) (seen_without site reader hidden is);
+}
+
+beside_without : (media : Media) (reader : Option Reader) (path : List ℕ) → IsHiddenMedium media reader path
+    → beside_of media reader ≡ beside_of (media_without media path) reader
+beside_without media reader path hidden =
+    same_beside media (media_without media path) reader reader (media_seen_without media reader path hidden)
+
+pub links_to_hidden_media_as_to_none : LinksToHiddenMediaAsToNone
+links_to_hidden_media_as_to_none = record {
+  links = λ site media reader hidden page dest is.
+      ap (λ beside. link_shown (view_of site reader) beside page dest) (beside_without media reader hidden is);
+  pages = λ site media reader hidden page rendered is.
+      ap (λ beside. body_of page (link_shown (view_of site reader) beside page) rendered) (beside_without media reader hidden is);
 }

@@ -1,4 +1,6 @@
 pub mod AnswerEdits
+pub mod AnswersFree
+pub mod Apart
 mod ConnectionSteps
 mod CountSteps
 mod CutLaws
@@ -14,6 +16,7 @@ mod HiddenLaws
 mod KindSteps
 mod MadeLaws
 mod MadeSites
+pub mod MediaLaws
 mod NextLaws
 mod NumberSteps
 mod PushLaws

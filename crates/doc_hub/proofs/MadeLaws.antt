@@ -13,14 +13,17 @@ use Rattle.doc_store_readers.proofs.KeySteps.{same_key, same_from, same_itself, 
 use Rattle.doc_store_readers.specs.Maps.{TextMap}
 use Rattle.doc_store_readers.specs.Pages.{Page}
 use Rattle.doc_store_readers.specs.Readers.{ReaderTable}
+use Rattle.doc_media.specs.Media.{Media}
 use Rattle.doc_people.specs.declared.settings.Settings.{Settings}
 use Rattle.doc_store_readers.specs.Sites.{Site, IsSite}
-use Rattle.doc_store.specs.Store.{alias_limit, aliases_after, effect_of, fits, may_move, move_page, moved_by, page_limit, put_by, put_limit}
+use Rattle.doc_store.specs.Store.{alias_limit, aliases_after, effect_of, fits, goal_after, move_page, moved_by, page_limit, put_by}
+use Rattle.doc_store.specs.Store.{put_limit}
 use Rattle.doc_store.specs.Store.{set_page, text_limit}
 use Rattle.doc_store.specs.declared.moving.MoveError.{MoveError}
 use Rattle.doc_store.specs.declared.moving.MoveError.TheVariants as move_errors
 use Rattle.doc_store.specs.declared.store.EditError.{EditError}
 use Rattle.doc_store.specs.declared.store.EditError.TheVariants.{TooLong, StoreFull}
+use Rattle.doc_store.specs.declared.store.EditError.TheVariants as edit_errors
 use Rattle.doc_store.specs.declared.store.Put.{Put}
 use Rattle.doc_store.specs.declared.store.Put.TheVariants.{Created, Replaced}
 use Rattle.doc_hub.specs.Connections.{Connections, backlog_limit, new_connection, pushed_at}
@@ -31,7 +34,7 @@ use Rattle.doc_hub.specs.MadeLaws.{FreshIsMade, IsMaking, makings}
 use Rattle.doc_hub_answers.specs.Replies.{Renders}
 use Rattle.doc_hub.specs.Runs.{Happened, Leaves, Runs, nothing}
 use Rattle.doc_hub.specs.StepLaws.{open_with}
-use Rattle.doc_hub.specs.Worlds.{World, last_id, new_world, store_of, with_store}
+use Rattle.doc_hub.specs.Worlds.{IsApart, World, has_medium, last_id, may_move_beside, new_world, store_of, with_store}
 use Rattle.doc_hub.specs.declared.connection.Connection.{Connection}
 use Rattle.doc_hub_events.specs.declared.event.ConnId.{ConnId}
 use Rattle.doc_hub_events.specs.declared.event.Event.{Event}
@@ -39,6 +42,7 @@ use Rattle.doc_hub_events.specs.declared.event.Event.TheVariants as events
 use Rattle.doc_hub_events.specs.declared.outcome.Outcome.{Outcome}
 use Rattle.doc_hub_events.specs.declared.refusal.ConnectError.TheVariants as connect_errors
 use Rattle.doc_hub_events.specs.declared.refusal.PushError.{PushError}
+use Rattle.doc_hub.proofs.Apart.{Clear, key_free, mapped_clear, set_clear, stands_free, taken_clear}
 use Rattle.doc_hub.proofs.MadeSites.{before, page_there, free_there, pages_again, aliases_again, site_before, pages_before, aliases_before}
 use Rattle.doc_hub.proofs.MadeSites.{texts_before, standing, len_taken, some_entry}
 use Rattle.doc_hub.proofs.PushLaws.{gives, is_set, set_twice}
@@ -82,15 +86,19 @@ move_fits_by true false true out a b d e = cc
 move_fits_by true false false true a b d e = cc
 move_fits_by true false false false a b d e = refl
 
-module _ (render : Renders) (readers : ReaderTable) (settings : Settings) where
+neither : (a b : Bool) → a ≡ false → b ≡ false → (a || b) ≡ false
+neither true b is also = is
+neither false b is also = also
+
+module _ (render : Renders) (readers : ReaderTable) (settings : Settings) (media : Media) where
   -- the server with this site after so many puts and moves
   abbrev at : Site → ℕ → World
-  at site puts = record (new_world readers settings) { site = site; puts = puts }
+  at site puts = record (new_world readers settings media) { site = site; puts = puts }
 
   record Reached (w : World) : Type 0 where
     run : List Happened
     making : All IsMaking run
-    runs : Runs render (new_world readers settings) run w
+    runs : Runs render (new_world readers settings media) run w
 
   one_more : (w v : World) (event : Event) (outcome : Outcome) → IsMaking (happened w event outcome) → Leaves render w event v outcome
       → Reached w → Reached v
@@ -99,20 +107,25 @@ module _ (render : Renders) (readers : ReaderTable) (settings : Settings) where
       record {
         run = so_far.run ++ h ∷ [];
         making = All-append IsMaking so_far.run (h ∷ []) so_far.making (All-cons IsMaking h [] making (All-nil IsMaking));
-        runs = runs_more render (new_world readers settings) w v so_far.run event outcome so_far.runs leaves;
+        runs = runs_more render (new_world readers settings media) w v so_far.run event outcome so_far.runs leaves;
       }
 
   put_more : (site : Site) (puts : ℕ) (path : List ℕ) (page : Page)
-      → fits (map.len site.pages) (map.contains_key site.pages path) puts page.text ≡ Ok tt → Reached (at site puts)
-      → Reached (at (effect_of site (set_page path page)) (puts + 1))
-  put_more site puts path page fine so_far =
+      → fits (map.len site.pages) (map.contains_key site.pages path) puts page.text ≡ Ok tt → has_medium media path ≡ false
+      → Reached (at site puts) → Reached (at (effect_of site (set_page path page)) (puts + 1))
+  put_more site puts path page fine free so_far =
       let w = at site puts in
       let stands = map.contains_key site.pages path in
       let done : Put = if stands then Replaced else Created in
-      one_more w (at (effect_of site (set_page path page)) (puts + 1)) (events.Site (set_page path page)) (putting (Ok done)) tt
-      (Ok done, ap (λ said. let r = put_by (store_of w) path page stands said in (with_store w r.0, r.1)) fine, refl) so_far
+      one_more w (at (effect_of site (set_page path page)) (puts + 1)) (events.Site (set_page path page)) (putting (Ok done)) tt (
+        Ok done,
+        ap (λ said. let r = put_by (store_of w) path page stands said in (with_store w r.0, r.1))
+            (ap (λ medium. if medium then Err edit_errors.Taken else fits (map.len site.pages) stands puts page.text) free ∙ fine),
+        refl,
+      ) so_far
 
-  move_more : (site : Site) (puts : ℕ) (from to : List ℕ) → may_move (store_of (at site puts)) from to ≡ Ok tt → Reached (at site puts)
+  move_more : (site : Site) (puts : ℕ) (from to : List ℕ) → may_move_beside media (store_of (at site puts)) from to ≡ Ok tt
+      → Reached (at site puts)
       → Reached (at (effect_of site (move_page from to)) (puts + 1))
   move_more site puts from to fine so_far =
       let w = at site puts in
@@ -124,24 +137,26 @@ module _ (render : Renders) (readers : ReaderTable) (settings : Settings) where
   abbrev AreShort : TextMap Page → Type 0
   AreShort pages = (path : List ℕ) (page : Page) → map.get pages path ≡ Some page → length page.text ≤ text_limit
 
-  pages_reached : (n : ℕ) (pages : TextMap Page) → map.len pages ≡ n → n ≤ page_limit → AreShort pages
+  pages_reached : (n : ℕ) (pages : TextMap Page) → map.len pages ≡ n → n ≤ page_limit → AreShort pages → Clear media pages
       → Reached (at (record { pages = pages; aliases = map.empty }) n)
-  pages_reached zero pages e few short =
+  pages_reached zero pages e few short clear =
       subst (λ m. Reached (at (record { pages = m; aliases = map.empty }) 0)) (sym (map.empty_of_len pages e))
-      (record { run = []; making = All-nil IsMaking; runs = nothing (new_world readers settings) })
-  pages_reached (suc n) pages e few short =
+      (record { run = []; making = All-nil IsMaking; runs = nothing (new_world readers settings media) })
+  pages_reached (suc n) pages e few short clear =
       let (path, page, found) = some_entry pages n e in
       let others : TextMap Page = map.remove pages path in
       let count : map.len others ≡ n = one_less (map.len others) n (sym (len_taken pages path (ap is_some found)) ∙ e) in
       let gone : map.get others path ≡ None = get_taken pages path path ∙ ap (λ b. cond b None (map.get pages path)) (same_itself path) in
-      let so_far = pages_reached n others count (omega arith) (λ q p there. short q p (stood q p path pages there)) in
+      let so_far = pages_reached n others count (omega arith) (λ q p there. short q p (stood q p path pages there))
+      (taken_clear media pages path clear) in
       let fine : fits (map.len others) (map.contains_key others path) n page.text ≡ Ok tt =
       fits_by (nat_lt text_limit (length page.text)) (nat_le page_limit (map.len others)) (nat_le put_limit n)
       (map.contains_key others path)
       (within (length page.text) text_limit (short path page found))
       (ap (nat_le page_limit) count ∙ not_yet n page_limit (omega arith)) (still_few n (omega arith)) in
       subst Reached (λ i. at (record { pages = back path page pages found i; aliases = none_taken path i }) (added i))
-      (put_more (record { pages = others; aliases = map.empty }) n path page fine so_far)
+      (put_more (record { pages = others; aliases = map.empty }) n path page fine
+      (key_free media pages path clear (ap is_some found)) so_far)
     where
       added : n + 1 ≡ suc n
       added = omega arith
@@ -177,15 +192,15 @@ module _ (render : Renders) (readers : ReaderTable) (settings : Settings) where
   -- ---- the aliases
 
   site_reached : (n : ℕ) (site : Site) → map.len site.aliases ≡ n → n ≤ alias_limit → map.len site.pages ≤ page_limit → IsSite site
-      → AreShort site.pages → Reached (at site (map.len site.pages + n))
-  site_reached zero site e few small is short =
+      → AreShort site.pages → IsApart site media → Reached (at site (map.len site.pages + n))
+  site_reached zero site e few small is short apart =
       subst Reached (λ i. at (record { pages = site.pages; aliases = sym (map.empty_of_len site.aliases e) i }) (none
       (map.len site.pages) i))
-      (pages_reached (map.len site.pages) site.pages refl small short)
+      (pages_reached (map.len site.pages) site.pages refl small short apart.pages)
     where
       none : (a : ℕ) → a ≡ a + 0
       none a = omega arith
-  site_reached (suc n) site e few small is short =
+  site_reached (suc n) site e few small is short apart =
       let (from, to, is_alias) = some_entry site.aliases n e in
       let (page, stands) = standing (map.get site.pages to) (is.lead from to is_alias) in
       let old = before site is from to page is_alias stands in
@@ -194,13 +209,22 @@ module _ (render : Renders) (readers : ReaderTable) (settings : Settings) where
       let same : map.len old.pages ≡ map.len site.pages = pages_before site is from to page is_alias stands in
       let again = aliases_again site is from to page is_alias stands in
       let so_far = site_reached n old count (omega arith) (subst (λ a. a ≤ page_limit) (sym same) small)
-      (site_before site is from to page is_alias stands) (texts_before site is from to page is_alias stands short) in
+      (site_before site is from to page is_alias stands) (texts_before site is from to page is_alias stands short)
+      (record {
+        pages = set_clear media (map.remove site.pages to) from page (key_free media site.aliases from apart.aliases (ap is_some is_alias))
+            (taken_clear media site.pages to apart.pages);
+        aliases = mapped_clear media (goal_after to from) (map.remove site.aliases from)
+            (taken_clear media site.aliases from apart.aliases);
+      }) in
       let puts = map.len old.pages + n in
       let few_so_far : puts ≤ page_limit + alias_limit = sum_of (map.len old.pages) (map.len site.pages) n same small few in
-      let fine : may_move (store_of (at old puts)) from to ≡ Ok tt =
-      move_fits_by (map.contains_key old.pages from) (map.contains_key old.pages to)
+      let free : (map.contains_key old.pages to || has_medium media to) ≡ false =
+      neither (map.contains_key old.pages to) (has_medium media to) (ap is_some (free_there site is from to page is_alias stands))
+      (stands_free media site to apart (ap is_some stands)) in
+      let fine : may_move_beside media (store_of (at old puts)) from to ≡ Ok tt =
+      move_fits_by (map.contains_key old.pages from) (map.contains_key old.pages to || has_medium media to)
       (nat_lt alias_limit (map.len (aliases_after old.aliases from to))) (nat_le put_limit puts)
-      (ap is_some (page_there site is from to page is_alias stands)) (ap is_some (free_there site is from to page is_alias stands))
+      (ap is_some (page_there site is from to page is_alias stands)) free
       (ap (λ m. nat_lt alias_limit (map.len m)) again
       ∙ within (map.len site.aliases) alias_limit (subst (λ a. a ≤ alias_limit) (sym e) few))
       (still_few puts few_so_far) in
@@ -252,12 +276,12 @@ module _ (render : Renders) (readers : ReaderTable) (settings : Settings) where
       none_before n = omega arith
 
 pub fresh_is_made : FreshIsMade
-fresh_is_made render site token reader settings unread fine short =
+fresh_is_made render site media token reader settings unread fine apart short =
     let readers = only_reader token reader in
     let puts = makings site in
-    let all = push_more render readers settings site puts unread short
-    (connect_more render readers settings site puts
-    (site_reached render readers settings (map.len site.aliases) site refl fine.aliases fine.pages fine.is_site fine.texts)) in
+    let all = push_more render readers settings media site puts unread short
+    (connect_more render readers settings media site puts
+    (site_reached render readers settings media (map.len site.aliases) site refl fine.aliases fine.pages fine.is_site fine.texts apart)) in
     record {
       run = all.run;
       making = all.making;

@@ -11,7 +11,8 @@ use Rattle.doc_store_readers.specs.Maps.{TextMap, map_values}
 use Rattle.doc_store_readers.specs.Pages.{Page}
 use Rattle.doc_store_readers.specs.Sites.{Site, IsSite}
 use Rattle.doc_store.specs.Store.{aliases_after, goal_after, text_limit, with_key, with_key_at}
-use Rattle.doc_store_readers.proofs.KeySteps.{same_key, same_from, same_itself, bytes_eq_is, not_none, some_is, get_set, get_taken, contains_taken}
+use Rattle.doc_store_readers.proofs.KeySteps.{same_key, same_from, same_itself, bytes_eq_is, not_none, some_is, get_set, get_taken}
+use Rattle.doc_store_readers.proofs.KeySteps.{contains_taken}
 use Rattle.doc_store_readers.proofs.MapValues.{get-map_values, len-map_values}
 use Rattle.doc_store.proofs.StoreSteps.{get-aliases_after}
 use Rattle.doc_page_parts.proofs.Bools.{clash}

@@ -4,7 +4,7 @@ use Rattle.std.specs.Prelude.{Option, Some, None, Result, Ok, Err, MatchBool, na
 use Rattle.std.specs.FinMap as map
 use Rattle.doc_page_parts.specs.Refusals.{Gives}
 use Rattle.doc_store_readers.specs.Pages.{Page}
-use Rattle.doc_store.specs.Store.{StoreState, fits_in, may_move, moved_by, put_by}
+use Rattle.doc_store.specs.Store.{StoreState, moved_by, put_by}
 use Rattle.doc_store.specs.declared.moving.MoveError.{MoveError}
 use Rattle.doc_store.specs.declared.moving.MoveError.TheVariants as move_errors
 use Rattle.doc_store.specs.declared.store.EditError.{EditError}
@@ -19,7 +19,7 @@ use Rattle.doc_hub.specs.FreshLaws.{PutsAreCounted}
 use Rattle.doc_hub_answers.specs.Replies.{Renders}
 use Rattle.doc_hub.specs.Runs.{Happens, HappensOn, HappensSite, Leaves, nothing, first}
 use Rattle.doc_hub.specs.Worlds.{World, Answers, Stays, StepsAt, answer_in, connected, last_id, stepped_by, store_of, world_moved}
-use Rattle.doc_hub.specs.Worlds.{world_pushed, world_put}
+use Rattle.doc_hub.specs.Worlds.{may_move_beside, may_put, world_pushed, world_put}
 use Rattle.doc_hub.proofs.KindSteps.{stand_beside}
 use Rattle.doc_hub.specs.declared.connection.Connection.{Connection}
 use Rattle.doc_hub_events.specs.declared.event.ConnId.{ConnId}
@@ -133,11 +133,12 @@ module _ (render : Renders) where
   site_counts w v (site_edits.Put path groups text) said h =
       by_gives edit_errors.Memory (world_put w path groups text) w v said
       (put_counts (store_of w) path (record { groups = groups; text = text }) (map.contains_key w.site.pages path)
-      (fits_in (store_of w) path text)) h
+      (may_put w.media (store_of w) path text)) h
   site_counts w v (site_edits.Remove path) said h =
       by_equation _ w v said (removed_counts (store_of w) path (map.contains_key w.site.pages path)) h
   site_counts w v (site_edits.Move from to) said h =
-      by_gives move_errors.Memory (world_moved w from to) w v said (move_counts (store_of w) from to (may_move (store_of w) from to)) h
+      by_gives move_errors.Memory (world_moved w from to) w v said
+      (move_counts (store_of w) from to (may_move_beside w.media (store_of w) from to)) h
 
   event_counts : (w v : World) (event : Event) (said : Said event) → Happens render w event v said → Counts w v
   event_counts w v events.Connect said h =

@@ -10,6 +10,7 @@ use Rattle.std.proofs.lemmas.List.Elements.{All-nil, All-cons}
 use Rattle.doc_page_parts.specs.Refusals.{Gives}
 use Rattle.doc_store_readers.specs.Pages.{Page}
 use Rattle.doc_store_readers.specs.Readers.{ReaderTable}
+use Rattle.doc_media.specs.Media.{Media}
 use Rattle.doc_people.specs.declared.settings.Settings.{Settings}
 use Rattle.doc_store.specs.Store.{StoreState, alias_limit, aliases_after, fits_in, may_move, moved_by, put_by, put_limit}
 use Rattle.doc_store.specs.declared.moving.MoveError.{MoveError}
@@ -27,9 +28,10 @@ use Rattle.doc_hub.specs.FreshLaws.{SendsAsFreshAlways}
 use Rattle.doc_hub.specs.MadeLaws.{IsWithin, MadeReplies, SendsAsMade, makings}
 use Rattle.doc_hub_answers.specs.Replies.{Renders}
 use Rattle.doc_hub.specs.Runs.{Happens, HappensOn, HappensSite, Happened, Runs, nothing, first}
-use Rattle.doc_hub.specs.StepLaws.{open_with, site_seen}
-use Rattle.doc_hub.specs.Worlds.{World, Answers, Stays, StepsAt, answer_in, asking_of, connected, disconnected, last_id, new_world}
-use Rattle.doc_hub.specs.Worlds.{reader_of, stepped_by, store_of, token_of, world_moved, world_pushed, world_put}
+use Rattle.doc_hub.specs.StepLaws.{media_seen, open_with, site_seen}
+use Rattle.doc_hub.specs.Worlds.{IsApart, World, Answers, Stays, StepsAt, answer_in, asking_of, connected, disconnected, has_medium}
+use Rattle.doc_hub.specs.Worlds.{last_id, new_world}
+use Rattle.doc_hub.specs.Worlds.{may_move_beside, may_put, reader_of, stepped_by, store_of, token_of, world_moved, world_pushed, world_put}
 use Rattle.doc_hub.proofs.KindSteps.{stand_beside}
 use Rattle.doc_hub.specs.declared.connection.Connection.{Connection}
 use Rattle.doc_hub_events.specs.declared.event.ConnId.{ConnId}
@@ -50,6 +52,8 @@ use Rattle.doc_hub_events.specs.declared.refusal.StepError.TheVariants as step_e
 use Rattle.doc_hub_answers.specs.declared.edit.Edit.{Edit}
 use Rattle.doc_hub_answers.specs.declared.edit.Edit.TheVariants as edits
 use Rattle.doc_hub.proofs.AnswerEdits.{answer_can_be_made}
+use Rattle.doc_hub.proofs.Apart.{move_is_free, put_is_free, seen_apart}
+use Rattle.doc_hub.proofs.MediaLaws.{all_apart, none_apart}
 use Rattle.doc_hub.proofs.FreshLaws.{new_replies_as_fresh}
 use Rattle.doc_hub.proofs.MadeLaws.{fresh_is_made, move_fits_by}
 use Rattle.doc_hub.proofs.StoredSteps.{Stored, cut_within, move_stored, nothing_stored, put_stored, remove_stored}
@@ -120,14 +124,18 @@ abbrev StoredWorld : World → StoreState → Type 0
 StoredWorld w store = Stored store.site store.puts
 
 put_can : (w : World) (path : List ℕ) (page : Page) (stands : Bool) (said : Result (Unit {0}) EditError)
-    → fits_in (store_of w) path page.text ≡ said
+    → may_put w.media (store_of w) path page.text ≡ said
     → Stored w.site w.puts → StoredWorld w (put_by (store_of w) path page stands said).0
-put_can w path page stands (Ok fine) is stored = put_stored w.site w.puts path page is stored
+put_can w path page stands (Ok fine) is stored =
+    put_stored w.site w.puts path page (put_is_free (has_medium w.media path) (fits_in (store_of w) path page.text) is).1 stored
 put_can w path page stands (Err e) is stored = stored
 
-move_can : (w : World) (from to : List ℕ) (said : Result (Unit {0}) MoveError) → may_move (store_of w) from to ≡ said
+move_can : (w : World) (from to : List ℕ) (said : Result (Unit {0}) MoveError) → may_move_beside w.media (store_of w) from to ≡ said
     → Stored w.site w.puts → StoredWorld w (moved_by (store_of w) from to said).0
-move_can w from to (Ok fine) is stored = move_stored w.site w.puts from to is stored
+move_can w from to (Ok fine) is stored =
+    let free = move_is_free (map.contains_key w.site.pages from) (map.contains_key w.site.pages to) (has_medium w.media to)
+    (map.len (aliases_after w.site.aliases from to)) w.puts is in
+    move_stored w.site w.puts from to free.2 stored
 move_can w from to (Err e) is stored = stored
 
 remove_can : (w : World) (path : List ℕ) (stands : Bool) → Stored w.site w.puts
@@ -192,7 +200,7 @@ module _ (render : Renders) where
   front_can w n k (nexts.Request used request) found can =
       let a = answer_in render w request in
       record {
-        stored = edit_can w request.body a.edit (answer_can_be_made w.takes_puts render w.settings (store_of w)
+        stored = edit_can w request.body a.edit (answer_can_be_made w.takes_puts render w.settings w.media (store_of w)
             (asking_of w request) request) can.stored;
         short = set_short w.connections n (finished k used a.closes) can.short (finished_length k used a.closes (can.short n k found));
       }
@@ -228,14 +236,14 @@ module _ (render : Renders) where
       by_gives edit_errors.Memory (world_put w path groups text) w v said can
       (record {
         stored = put_can w path (record { groups = groups; text = text }) (map.contains_key w.site.pages path)
-            (fits_in (store_of w) path text) refl can.stored;
+            (may_put w.media (store_of w) path text) refl can.stored;
         short = can.short;
       }) h
   site_can w v (site_edits.Remove path) said can h =
       by_equation _ v said (record { stored = remove_can w path (map.contains_key w.site.pages path) can.stored; short = can.short }) h
   site_can w v (site_edits.Move from to) said can h =
       by_gives move_errors.Memory (world_moved w from to) w v said can
-      (record { stored = move_can w from to (may_move (store_of w) from to) refl can.stored; short = can.short }) h
+      (record { stored = move_can w from to (may_move_beside w.media (store_of w) from to) refl can.stored; short = can.short }) h
 
   event_can : (w v : World) (event : Event) (said : Said event) → CanBe w → Happens render w event v said → CanBe v
   event_can w v events.Connect said can h =
@@ -265,19 +273,23 @@ within_limits w can = record {
   texts = can.stored.texts;
 }
 
-made_one : (render : Renders) (h : Happened) → CanBe h.world → SendsAsFreshAlways render h → SendsAsMade render h
-made_one render h can replies unread used request said is takes =
+made_one : (render : Renders) (h : Happened) → CanBe h.world → IsApart h.world.site h.world.media → SendsAsFreshAlways render h
+    → SendsAsMade render h
+made_one render h can apart replies unread used request said is takes =
     let site = site_seen h.world request in
+    let media = media_seen h.world request in
     let reader = reader_of h.world request in
-    let made = fresh_is_made render site (token_of h.world request) (known_of (asking_of h.world request)) h.world.settings unread
-    (cut_within h.world.site reader (within_limits h.world can)) (can.short is.c.0 (open_with unread) is.stands) in
+    let made = fresh_is_made render site media (token_of h.world request) (known_of (asking_of h.world request)) h.world.settings unread
+    (cut_within h.world.site reader (within_limits h.world can)) (seen_apart h.world.site h.world.media reader apart)
+    (can.short is.c.0 (open_with unread) is.stands) in
     (made, replies unread (nexts.Request used request) said is takes (makings site) made.left)
 
-new_can : (readers : ReaderTable) (settings : Settings) → CanBe (new_world readers settings)
-new_can readers settings = record { stored = nothing_stored; short = none_short }
+new_can : (readers : ReaderTable) (settings : Settings) (media : Media) → CanBe (new_world readers settings media)
+new_can readers settings media = record { stored = nothing_stored; short = none_short }
 
 pub made_replies : MadeReplies
-made_replies render readers settings v run runs few =
-    let cans = all_can render (new_world readers settings) v run (new_can readers settings) runs in
-    let replies = new_replies_as_fresh render readers settings v run runs few in
-    λ k d lt. made_one render (slice_index_or run k d) (cans k d lt) (replies k d lt)
+made_replies render readers settings media v run runs few =
+    let cans = all_can render (new_world readers settings media) v run (new_can readers settings media) runs in
+    let aparts = all_apart render (new_world readers settings media) v run (none_apart media) runs in
+    let replies = new_replies_as_fresh render readers settings media v run runs few in
+    λ k d lt. made_one render (slice_index_or run k d) (cans k d lt) (aparts k d lt) (replies k d lt)

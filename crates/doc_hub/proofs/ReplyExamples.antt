@@ -17,6 +17,7 @@ use Rattle.doc_page_parts.specs.declared.rendered.Rendered.{Rendered}
 use Rattle.doc_store_readers.specs.Groups.{groups_of_names}
 use Rattle.doc_store_readers.specs.Pages.{Page}
 use Rattle.doc_store_readers.specs.Sites.{View, view_of}
+use Rattle.doc_media.specs.Media.{beside_of}
 use Rattle.doc_store.specs.Store.{text_limit, page_limit}
 use Rattle.doc_store_readers.specs.declared.reader.Reader.{Reader}
 use Rattle.doc_http_replies.specs.Replies.{reason_of, field_line, reply_head, reply_bytes}
@@ -29,11 +30,13 @@ use Rattle.doc_resolve.specs.References.{reference}
 use Rattle.doc_resolve.specs.Resolution.{resolve}
 use Rattle.doc_resolve.specs.WrittenPaths.{path_written as target_path_written}
 use Rattle.doc_links_pages.specs.Links.{backlinks, broken, contents}
+use Rattle.doc_media_links.specs.Images.{broken_images}
 use Rattle.doc_listings.specs.Listings.{backlinks_text, entry_lines, heading_line, report_text}
 use Rattle.doc_hub.specs.Connections.{pushed_onto, finished, backlog_limit}
 use Rattle.doc_hub_answers.specs.Edits.{puts_taken}
 use Rattle.doc_hub_answers.specs.Replies.{Renders, fault_bytes}
 use Rattle.doc_hub_asking.specs.Asking.{known_by}
+use Rattle.doc_hub_media.specs.MediaAnswers.{media_response}
 use Rattle.doc_hub_replies.specs.Answers.{answer_of}
 use Rattle.doc_http_replies.specs.Heads.{dressed_bytes, dressed_head}
 use Rattle.doc_hub.specs.StepEdits.{edit_of_step}
@@ -51,9 +54,10 @@ use Rattle.doc_hub_answers.specs.declared.edit.Edit.TheVariants as edits
 unfoldable computing : Unit {0}
 unfolding digits chars is_utf8 encode percent_decode percent_encode_byte encoded encoded_path kind_on target_path_written put_all reference
     resolve without_dots escaped lines without_ending stripped filled is_path paragraphs plain_html reason_of field_line reply_head
-    reply_bytes dressed_head dressed_bytes answer_of origin_form route_of path_written value_of raw_pairs split utf8_lossy utf8_valid_len
+    reply_bytes dressed_head dressed_bytes answer_of media_response origin_form route_of path_written value_of raw_pairs split utf8_lossy
+    utf8_valid_len
     groups_of_names text_limit
-    page_limit backlog_limit kinds backlinks broken contents backlinks_text entry_lines heading_line report_text
+    page_limit backlog_limit kinds backlinks broken broken_images contents backlinks_text entry_lines heading_line report_text
 computing = tt
 
 -- the pages of the demonstration site
@@ -98,7 +102,7 @@ asked method target = record {
 -- the answer to whom an entry names, without pages for people
 abbrev answer_by_entry : Renders → View → Option Reader → Bool → Bool → Request → Answer
 answer_by_entry render view reader left keep_alive request =
-    answer_of (plain_settings keep_alive) render view (known_by reader) left request
+    answer_of (plain_settings keep_alive) render view None (known_by reader) left request
 
 page_reply_bytes : (answer_by_entry plain_page staff_view ann true true (asked (codes "GET") (codes "/page/a.md"))).bytes
     ≡ codes "HTTP/1.1 200 OK\r\nContent-Type: text/html; charset=utf-8\r\n"
@@ -115,12 +119,13 @@ rendered_b = record {
       (record { dest = codes "d.md"; title = None }) ∷ Html (codes "d</a></p>\n") ∷ [];
   headings = [];
   texts = [];
+  images = [];
 }
 
 abbrev by_table : Renders
 by_table text =
     if bytes_eq text page_b.1.text then rendered_b
-    else record { pieces = Html text ∷ []; headings = []; texts = [] }
+    else record { pieces = Html text ∷ []; headings = []; texts = []; images = [] }
 
 -- the reader of staff sees no `c.md`: it is shown as `d.md` is, which nobody has
 links_for_staff : (answer_by_entry by_table staff_view ann true true (asked (codes "GET") (codes "/page/b.md"))).bytes
@@ -419,11 +424,12 @@ abbrev edit_seen : View → Option Reader → Bool → Request → Option Edit
 edit_seen view reader left request = (answer_by_entry plain_page view reader left true request).edit
 
 step_tells_what_is_seen : (w : World) (used : ℕ) (request : Request) (view : View) (reader : Option Reader) (left : Bool)
-    → view_of w.site (reader_of w request) ≡ view → asking_of w request ≡ known_by reader → puts_taken w.takes_puts w.puts ≡ left
+    → view_of w.site (reader_of w request) ≡ view → beside_of w.media (reader_of w request) ≡ None → asking_of w request ≡ known_by reader
+    → puts_taken w.takes_puts w.puts ≡ left
     → w.settings ≡ plain_settings true
     → edit_of_step plain_page w (nexts.Request used request) ≡ edit_seen view reader left request
-step_tells_what_is_seen w used request view reader left sees is remains keeps =
-    λ i. (answer_of (keeps i) plain_page (sees i) (is i) (remains i) request).edit
+step_tells_what_is_seen w used request view reader left sees none is remains keeps =
+    λ i. (answer_of (keeps i) plain_page (sees i) (none i) (is i) (remains i) request).edit
 
 step_of_a_fault : (w : World) → edit_of_step plain_page w (nexts.Fault 400 false) ≡ None
 step_of_a_fault w = refl

@@ -3,6 +3,7 @@ use Rattle.std.proofs.Common.{◌≡◌, ℕ, List, Bool, true, false, refl}
 use Rattle.std.specs.Prelude.{⊤, codes, Option, Some, None, IfSome, Result, Ok, Err, option_and_then, if◌then◌else◌}
 use Rattle.std.specs.List.{join_with_byte}
 use Rattle.doc_page_parts.specs.Paths.{is_path}
+use Rattle.doc_media.specs.Media.{Beside}
 use Rattle.doc_resolve.specs.WrittenPaths.{if_path, path_written as path_of_segments}
 use Rattle.doc_store_readers.specs.Groups.{groups_of}
 use Rattle.doc_store_readers.specs.Sites.{View}
@@ -82,16 +83,16 @@ module _ (view : View) (left : Bool) where
   route_at_path owner routes.Search request method = tt
   route_at_path owner routes.Broken request method = tt
 
-  found_at_path : (render : Renders) (owner : Bool) (route : Option Route) (request : Request)
-      → AtPaths (on_route render view owner left route request).edit
-  found_at_path render owner None request = tt
-  found_at_path render owner (Some route) request =
+  found_at_path : (render : Renders) (media : Beside) (owner : Bool) (route : Option Route) (request : Request)
+      → AtPaths (on_route render view media owner left route request).edit
+  found_at_path render media owner None request = tt
+  found_at_path render media owner (Some route) request =
       let method : Method = method_of request.method in
-      either (reads method) (only_reply (reply_at render view route request)) (edit_at view owner left route request method) tt
+      either (reads method) (only_reply (reply_at render view media route request)) (edit_at view owner left route request method) tt
       (route_at_path owner route request method)
 
-pub response_at_paths : (render : Renders) (view : View) (reader : Option Reader) (left : Bool) (request : Request)
-    → AtPaths (response_to render view reader left request).edit
-response_at_paths render view None left request = tt
-response_at_paths render view (Some reader) left request =
-    found_at_path view left render reader.owner (route_of request.target) request
+pub response_at_paths : (render : Renders) (view : View) (media : Beside) (reader : Option Reader) (left : Bool) (request : Request)
+    → AtPaths (response_to render view media reader left request).edit
+response_at_paths render view media None left request = tt
+response_at_paths render view media (Some reader) left request =
+    found_at_path view left render media reader.owner (route_of request.target) request

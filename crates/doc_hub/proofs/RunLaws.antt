@@ -33,7 +33,8 @@ use Rattle.doc_hub_events.specs.declared.event.Event.TheVariants as events
 use Rattle.doc_hub_events.specs.declared.outcome.Outcome.{Outcome}
 use Rattle.doc_hub_events.specs.declared.outcome.Outcome.TheVariants as outcomes
 use Rattle.doc_hub_events.specs.Events.{Said, SaidOn, connecting, outcome_of, pushing, step_on, stepping}
-use Rattle.doc_hub.specs.Runs.{IsOutOfMemory, Happened, Happens, HappensOn, Leaves, Runs, nothing, first, sent_by, is_on_by, is_on, events_on}
+use Rattle.doc_hub.specs.Runs.{IsOutOfMemory, Happened, Happens, HappensOn, Leaves, Runs, nothing, first, sent_by, is_on_by, is_on}
+use Rattle.doc_hub.specs.Runs.{events_on}
 use Rattle.doc_hub.specs.RunLaws.{AgreeAt, AgreeOnCall, Matched, RunsAlike}
 use Rattle.doc_hub.specs.StepLaws.{AgreeOn, connection}
 use Rattle.doc_hub.proofs.StepLaws.{answers_alike}

@@ -4,8 +4,8 @@ use Rattle.std.specs.Prelude.{nat_lt, MatchBool, Option, Some, None, option_map,
 use Rattle.std.specs.FinMap as map
 use Rattle.doc_page_parts.specs.Refusals.{Gives}
 use Rattle.doc_store_readers.specs.Pages.{Page}
-use Rattle.doc_store.specs.Store.{StoreState, set_page, remove_page, move_page, effect_of, fits_in, put_by, without_page}
-use Rattle.doc_store.specs.Store.{may_move, moved_by}
+use Rattle.doc_store.specs.Store.{StoreState, set_page, remove_page, move_page, effect_of, put_by, without_page}
+use Rattle.doc_store.specs.Store.{moved_by}
 use Rattle.doc_store.specs.declared.moving.MoveError.{MoveError}
 use Rattle.doc_store.specs.declared.moving.MoveError.TheVariants as move_errors
 use Rattle.doc_store.specs.declared.store.EditError.{EditError}
@@ -20,7 +20,7 @@ use Rattle.doc_hub_events.specs.Events.{Said, SaidOn, SaidSite, moving, outcome_
 use Rattle.doc_hub_answers.specs.Replies.{Renders}
 use Rattle.doc_hub.specs.Runs.{Happens, HappensOn, HappensSite, Leaves, nothing, first}
 use Rattle.doc_hub.specs.Worlds.{World, Answers, Stays, StepsAt, answer_in, asking_of, connected, last_id, stepped_by, store_of}
-use Rattle.doc_hub.specs.Worlds.{world_moved, world_pushed, world_put}
+use Rattle.doc_hub.specs.Worlds.{may_move_beside, may_put, world_moved, world_pushed, world_put}
 use Rattle.doc_hub.specs.declared.connection.Connection.{Connection}
 use Rattle.doc_hub_events.specs.declared.event.ConnId.{ConnId}
 use Rattle.doc_store.specs.declared.site_edit.SiteEdit.{SiteEdit}
@@ -116,7 +116,7 @@ module _ (render : Renders) where
   next_site w n c (nexts.Fault code bare) = refl
   next_site w n c (nexts.Request used request) =
       made_site (store_of w) request.body (answer_in render w request).edit
-      (answer_can_be_made w.takes_puts render w.settings (store_of w) (asking_of w request) request)
+      (answer_can_be_made w.takes_puts render w.settings w.media (store_of w) (asking_of w request) request)
 
   open_edits : (w v : World) (n : ℕ) (c : Connection) (said : Step) (closed : Bool)
       → MatchBool closed (Stays w (Ok steps.Closed) v (Ok said)) (Answers render w n v (Ok said) c)
@@ -166,7 +166,7 @@ module _ (render : Renders) where
         Some (set_page path page),
         refl,
         sym (ap (λ (q : World × Result Put EditError). q.0.site) gives)
-            ∙ put_site (store_of w) path page (map.contains_key w.site.pages path) (fits_in (store_of w) path text) done
+            ∙ put_site (store_of w) path page (map.contains_key w.site.pages path) (may_put w.media (store_of w) path text) done
             (ap (λ (q : World × Result Put EditError). q.1) gives),
       )
   put_edits w v path groups text (Err e) gives = (None, refl, ap (λ (x : World). x.site) gives.1)
@@ -177,7 +177,8 @@ module _ (render : Renders) where
     Some (move_page from to),
     refl,
     sym (ap (λ (q : World × Result (Unit {0}) MoveError). q.0.site) gives)
-        ∙ moved_site (store_of w) from to (may_move (store_of w) from to) (ap (λ (q : World × Result (Unit {0}) MoveError). q.1) gives),
+        ∙ moved_site (store_of w) from to (may_move_beside w.media (store_of w) from to)
+        (ap (λ (q : World × Result (Unit {0}) MoveError). q.1) gives),
   )
   move_edits w v from to (Err e) gives = (None, refl, ap (λ (x : World). x.site) gives.1)
 

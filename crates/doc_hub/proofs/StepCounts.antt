@@ -4,7 +4,8 @@ use Rattle.std.specs.Prelude.{MatchBool, Option, Some, None, Ok, option_map}
 use Rattle.std.specs.FinMap as map
 use Rattle.doc_store.specs.declared.site_edit.SiteEdit.{SiteEdit}
 use Rattle.doc_store_readers.specs.Pages.{Page}
-use Rattle.doc_store_readers.specs.Sites.{Site}
+use Rattle.doc_store_readers.specs.Sites.{Site, view_of}
+use Rattle.doc_media.specs.Media.{beside_of}
 use Rattle.doc_http.specs.Requests.{IsNext}
 use Rattle.doc_http.specs.declared.request.Request.{Request}
 use Rattle.doc_http.specs.declared.request.Next.{Next}
@@ -18,7 +19,7 @@ use Rattle.doc_hub_replies.specs.Answers.{shows_preview}
 use Rattle.doc_hub.specs.Counts.{Counted, StepPreviews, moves_in_edit, previews_by}
 use Rattle.doc_hub.specs.EditLaws.{StepMakes, edit_by, site_edit, with_groups}
 use Rattle.doc_hub_events.specs.Events.{step_on, stepping}
-use Rattle.doc_hub.specs.Worlds.{World, answer_in, asking_of}
+use Rattle.doc_hub.specs.Worlds.{World, answer_in, asking_of, reader_of}
 use Rattle.doc_hub.specs.declared.connection.Connection.{Connection}
 use Rattle.doc_hub_events.specs.declared.event.ConnId.{ConnId}
 use Rattle.doc_hub_events.specs.declared.event.Step.{Step}
@@ -82,11 +83,12 @@ module _ (render : Renders) (rendered rendered' : ℕ) (w v : World) (id : ConnI
   -- a request, by its answer
   pub request_counts : c.closed ≡ false → (used : ℕ) (request : Request) → IsNext c.unread (nexts.Request used request) → (answer : Answer)
       → answer ≡ answer_in render w request → (said : Step)
-      → RendersPuts rendered w.puts rendered' v.puts (moves_of answer.edit)
-      (previews_of (shows_preview w.settings.browse (asking_of w request) request))
+      → RendersPuts rendered w.puts rendered' v.puts (moves_of answer.edit) (previews_of (shows_preview w.settings.browse
+      (view_of w.site (reader_of w request)) (beside_of w.media (reader_of w request)) (asking_of w request) request))
       → Counted render rendered w rendered' v (step_on id) (stepping (Ok said))
   request_counts is_open used request begins answer is said renders =
       open_counts is_open (nexts.Request used request) begins said (moves_of answer.edit)
-      (previews_of (shows_preview w.settings.browse (asking_of w request) request))
+      (previews_of (shows_preview w.settings.browse (view_of w.site (reader_of w request)) (beside_of w.media (reader_of w request))
+      (asking_of w request) request))
       (same_moves w.site request.body answer.edit ∙ ap (λ (a : Answer). moves_in_edit (site_edit w.site request.body a.edit)) is) refl
       renders

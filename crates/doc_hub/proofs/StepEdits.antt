@@ -22,6 +22,8 @@ use Rattle.doc_hub_events.specs.declared.refusal.StepError.{StepError}
 use Rattle.doc_hub_answers.specs.declared.answer.Answer.{Answer}
 use Rattle.doc_hub_answers.specs.declared.edit.Edit.{Edit}
 use Rattle.doc_hub_answers.specs.declared.edit.Edit.TheVariants as edits
+use Rattle.doc_hub.proofs.AnswersFree.{answer_stays_free}
+use Rattle.doc_hub.proofs.Apart.{StaysFree}
 use Rattle.doc_hub.proofs.AnswerEdits.{answer_can_be_made}
 use Rattle.doc_hub.proofs.SiteLaws.{made_site, refused_step}
 
@@ -45,20 +47,23 @@ module _ (render : Renders) (w v : World) where
   }
 
   -- the store's edit, which can be made
-  edit_changes : (text : List ℕ) (edit : Option Edit) → CanBeMade (store_of w) text edit
+  edit_changes : (text : List ℕ) (edit : Option Edit) → CanBeMade (store_of w) text edit → StaysFree w.media edit
       → v.site ≡ (store_after (store_of w) text edit).site
       → Changes w edit v
-  edit_changes text None can site = site
-  edit_changes text (Some (edits.Put path groups)) can site = let page : Page = record { groups = groups; text = text } in record {
+  edit_changes text None can apart site = site
+  edit_changes text (Some (edits.Put path groups)) can apart site = let page : Page = record { groups = groups; text = text } in record {
     page = page;
     for_groups = refl;
     stands = stands_there path page site;
     fits = can.1;
+    apart = apart;
     site = site;
   }
-  edit_changes text (Some (edits.Regroup path groups)) can site = regroup_changes path groups (map.get w.site.pages path) refl can site
-  edit_changes text (Some (edits.Move from to)) can site = record { stood = can.stands; free = can.free; site = site }
-  edit_changes text (Some (edits.Remove path)) can site =
+  edit_changes text (Some (edits.Regroup path groups)) can apart site =
+      regroup_changes path groups (map.get w.site.pages path) refl can site
+  edit_changes text (Some (edits.Move from to)) can apart site =
+      record { stood = can.stands; free = can.free; apart = apart; site = site }
+  edit_changes text (Some (edits.Remove path)) can apart site =
       record { stood = can; site = site ∙ made_site (store_of w) text (Some (edits.Remove path)) can }
 
   next_changes : (n : ℕ) (c : Connection) (next : Next) → v.site ≡ (stepped_by render w n c next).0.site
@@ -67,7 +72,8 @@ module _ (render : Renders) (w v : World) where
   next_changes n c (nexts.Fault code bare) site = site
   next_changes n c (nexts.Request used request) site =
       edit_changes request.body (answer_in render w request).edit
-      (answer_can_be_made w.takes_puts render w.settings (store_of w) (asking_of w request) request) site
+      (answer_can_be_made w.takes_puts render w.settings w.media (store_of w) (asking_of w request) request)
+      (answer_stays_free render w request) site
 
   open_changes : (n : ℕ) (c : Connection) (said : Step) (edit : Option Edit) (closed : Bool)
       → MatchBool closed (Stays w (Ok steps.Closed) v (Ok said)) (Answers render w n v (Ok said) c)

@@ -1,9 +1,12 @@
 -- Step noninterference, and what a step of an open connection answers.
 use Rattle.std.proofs.Common.{◌≡◌, ℕ, List, Bool, true, false, bytes_eq, codes, refl, ap, sym, ◌∙◌, subst}
-use Rattle.std.specs.Prelude.{not, ◌&&◌, ◌||◌, Option, Some, None, Result, Ok, if◌then◌else◌}
+use Rattle.std.specs.Prelude.{not, ◌&&◌, ◌||◌, Option, Some, None, option_map, Result, Ok, if◌then◌else◌}
 use Rattle.std.specs.FinMap as map
 use Rattle.doc_store_readers.specs.declared.reader.Reader.{Reader}
+use Rattle.doc_store_readers.specs.Maps.{TextMap}
+use Rattle.doc_store_readers.specs.Pages.{Page}
 use Rattle.doc_store_readers.specs.Sites.{View, view_of}
+use Rattle.doc_media.specs.Media.{Beside, Media, beside_of, media_visible_to}
 use Rattle.doc_http.specs.Requests.{IsNext}
 use Rattle.doc_http.specs.declared.request.Request.{Request}
 use Rattle.doc_http.specs.declared.request.Next.{Next}
@@ -24,8 +27,10 @@ use Rattle.doc_hub_answers.specs.Replies.{put_by, reads, refused, reply_at, resp
 use Rattle.doc_hub_asking.specs.Asking.{Asking, is_guest, row_of}
 use Rattle.doc_hub_editing.specs.EditAnswers.{edit_response}
 use Rattle.doc_hub_replies.specs.PeopleAnswers.{people_reply}
-use Rattle.doc_hub_replies.specs.Answers.{answer_by, answer_of, asks_for_style, browsed, dress_for, edited_or, is_for_people, kept_from_guests}
-use Rattle.doc_hub_replies.specs.Answers.{people_answer, style_answer, unedited}
+use Rattle.doc_hub_media.specs.MediaAnswers.{MediaResponse, media_response}
+use Rattle.doc_hub_replies.specs.Answers.{answer_by, answer_of, asks_for_style, browsed, dress_by, dress_for, edited_or, is_for_people}
+use Rattle.doc_hub_replies.specs.Answers.{kept_from_guests}
+use Rattle.doc_hub_replies.specs.Answers.{media_or, people_answer, style_answer, unedited}
 use Rattle.doc_people.specs.declared.settings.Browse.{Browse}
 use Rattle.doc_people.specs.declared.settings.Settings.{Settings}
 use Rattle.doc_hub.specs.StepLaws.{AgreeOn, AnswersAlike, StepsAlike, connection, is_owners_put, open_with}
@@ -66,7 +71,7 @@ put_is_named name is =
     by_name (bytes_eq name (codes "GET")) (bytes_eq name (codes "HEAD")) (bytes_eq name (codes "PUT")) (bytes_eq name (codes "DELETE"))
     (bytes_eq name (codes "POST")) is
 
-module _ (render : Renders) (view : View) (left other : Bool) (request : Request) where
+module _ (render : Renders) (view : View) (beside : Beside) (left other : Bool) (request : Request) where
   same_put : (owner : Bool) (rest : List ℕ) → (owner ≡ true → left ≡ other)
       → ◌≡◌ {A = Response} (if owner then put_by view left rest request else refused 403)
       (if owner then put_by view other rest request else refused 403)
@@ -91,17 +96,17 @@ module _ (render : Renders) (view : View) (left other : Bool) (request : Request
   same_edit owner routes.Broken method same = refl
 
   same_at : (owner : Bool) (route : Route) (method : Method) → (method ≡ Put → owner ≡ true → left ≡ other)
-      → at_route render view owner left route request method ≡ at_route render view owner other route request method
+      → at_route render view beside owner left route request method ≡ at_route render view beside owner other route request method
   same_at owner route method same =
-      ap (λ edit. if reads method then only_reply (reply_at render view route request) else edit) (same_edit owner route method same)
+      ap (λ edit. if reads method then only_reply (reply_at render view beside route request) else edit) (same_edit owner route method same)
 
   same_route : (owner : Bool) (route : Option Route) → (method_of request.method ≡ Put → owner ≡ true → left ≡ other)
-      → on_route render view owner left route request ≡ on_route render view owner other route request
+      → on_route render view beside owner left route request ≡ on_route render view beside owner other route request
   same_route owner None same = refl
   same_route owner (Some route) same = same_at owner route (method_of request.method) same
 
   same_response : (reader : Option Reader) → (is_owners_put reader request ≡ true → left ≡ other)
-      → response_to render view reader left request ≡ response_to render view reader other request
+      → response_to render view beside reader left request ≡ response_to render view beside reader other request
   same_response None same = refl
   same_response (Some reader) same =
       same_route reader.owner (route_of request.target)
@@ -109,52 +114,70 @@ module _ (render : Renders) (view : View) (left other : Bool) (request : Request
 
   -- one that isn't for people, and doesn't edit
   same_plain : (dress : Dress) (asking : Asking) (close guest : Bool) → (is_owners_put (row_of asking) request ≡ true → left ≡ other)
-      → plain_answer dress (kept_from_guests guest (response_to render view (row_of asking) left request)) close request
-      ≡ plain_answer dress (kept_from_guests guest (response_to render view (row_of asking) other request)) close request
+      → plain_answer dress (kept_from_guests guest (response_to render view beside (row_of asking) left request)) close request
+      ≡ plain_answer dress (kept_from_guests guest (response_to render view beside (row_of asking) other request)) close request
   same_plain dress asking close guest same =
       ap (λ response. plain_answer dress (kept_from_guests guest response) close request) (same_response (row_of asking) same)
 
   same_unedited : (browse : Browse) (asking : Asking) (close : Bool) → (is_owners_put (row_of asking) request ≡ true → left ≡ other)
-      → unedited browse render view asking left close request ≡ unedited browse render view asking other close request
+      → unedited browse render view beside asking left close request ≡ unedited browse render view beside asking other close request
   same_unedited browse asking close same =
-      ap (λ plain. if is_for_people request then people_answer (people_reply render browse view asking request) close request else plain)
+      ap (λ plain. if is_for_people request then people_answer (people_reply render browse view beside asking request) close request
+      else plain)
       (same_plain (dress_for browse asking) asking close (is_guest asking) same)
 
   -- one that edits
   same_edits : (browse : Browse) (asking : Asking) → (is_owners_put (row_of asking) request ≡ true → left ≡ other)
-      → edit_response render browse view asking left (is_for_people request) request
-      ≡ edit_response render browse view asking other (is_for_people request) request
+      → edit_response render browse view beside asking left (is_for_people request) request
+      ≡ edit_response render browse view beside asking other (is_for_people request) request
   same_edits browse asking same =
-      edit_response_alike render browse view left other (is_for_people request) request asking
+      edit_response_alike render browse view beside left other (is_for_people request) request asking
       (λ row owns asks puts. same (ap (λ o. is_owners_put o request) asks
       ∙ ap (λ b. b && bytes_eq request.method (codes "PUT")) owns ∙ put_is_named request.method puts))
 
   same_browsed : (browse : Browse) (asking : Asking) (close : Bool) → (is_owners_put (row_of asking) request ≡ true → left ≡ other)
-      → browsed browse render view asking left close request ≡ browsed browse render view asking other close request
+      → browsed browse render view beside asking left close request ≡ browsed browse render view beside asking other close request
   same_browsed browse asking close same =
       λ i. if asks_for_style request then style_answer close request
       else edited_or (same_edits browse asking same i) (dress_for browse asking) close request (same_unedited browse asking close same i)
 
   same_by : (browse : Option Browse) (asking : Asking) (close : Bool) → (is_owners_put (row_of asking) request ≡ true → left ≡ other)
-      → answer_by browse render view asking left close request ≡ answer_by browse render view asking other close request
+      → answer_by browse render view beside asking left close request ≡ answer_by browse render view beside asking other close request
   same_by None asking close same =
       ap (λ response. plain_answer undressed response close request) (same_response (row_of asking) same)
   same_by (Some browse) asking close same = same_browsed browse asking close same
 
   asks_of_puts : (settings : Settings) (asking : Asking) → (is_owners_put (row_of asking) request ≡ true → left ≡ other)
-      → answer_of settings render view asking left request ≡ answer_of settings render view asking other request
+      → answer_of settings render view beside asking left request ≡ answer_of settings render view beside asking other request
   unfolding answer_of
-  asks_of_puts settings asking same = same_by settings.browse asking (request.close || not settings.keep_alive) same
+  asks_of_puts settings asking same =
+      let close : Bool = request.close || not settings.keep_alive in
+      let found : Option MediaResponse = media_response settings.browse render view beside asking (is_for_people request) request in
+      ap (media_or found (dress_by settings.browse asking) close request) (same_by settings.browse asking close same)
 
 -- ---- answers and steps
 
+-- the media beside a view are those that are seen
+seen_beside : (media : Media) (reader : Option Reader)
+    → beside_of media reader ≡ option_map (λ (held : TextMap Page). map.entries held) (media_visible_to media reader)
+seen_beside None reader = refl
+seen_beside (Some held) reader = refl
+
+-- where the same is seen of them, the same stands beside the views
+pub same_beside : (media others : Media) (reader another : Option Reader) → media_visible_to media reader ≡ media_visible_to others another
+    → beside_of media reader ≡ beside_of others another
+same_beside media others reader another same =
+    seen_beside media reader ∙ ap (option_map (λ (held : TextMap Page). map.entries held)) same ∙ sym (seen_beside others another)
+
 pub answers_alike : AnswersAlike
 answers_alike render w v request agree =
-    asks_of_puts render (view_of w.site (reader_of w request)) (puts_taken w.takes_puts w.puts) (puts_taken v.takes_puts v.puts)
+    let beside = same_beside w.media v.media (reader_of w request) (reader_of v request) agree.beside in
+    asks_of_puts render (view_of w.site (reader_of w request)) (beside_of w.media (reader_of w request)) (puts_taken w.takes_puts w.puts)
+    (puts_taken v.takes_puts v.puts)
     request w.settings (asking_of w request) agree.puts
     ∙ (λ i. answer_of (agree.settings i) render
     (record { pages = map.entries (agree.sites i).pages; aliases = map.entries (agree.sites i).aliases })
-    (agree.asking i) (puts_taken v.takes_puts v.puts) request)
+    (beside i) (agree.asking i) (puts_taken v.takes_puts v.puts) request)
 
 -- what a step answers, by what the unread bytes begin with
 pub said_alike : (render : Renders) (w v : World) (c d : ℕ) (one other : Connection) (next : Next) → AgreeOn w v next

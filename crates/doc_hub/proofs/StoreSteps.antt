@@ -1,10 +1,11 @@
 -- Edits of a store are edits of the world that it stands in: stamps change nothing else.
 use Rattle.std.proofs.Common.{◌≡◌, ℕ, List, Bool, true, false, refl, ap, sym, ◌∙◌, subst}
-use Rattle.std.specs.Prelude.{MatchBool, Option, Some, None, Result, Ok, Err, if◌then◌else◌}
+use Rattle.std.specs.Prelude.{◌&&◌, ◌||◌, MatchBool, Option, Some, None, Result, Ok, Err, if◌then◌else◌}
 use Rattle.std.specs.FinMap as map
 use Rattle.doc_page_parts.specs.Refusals.{Gives, IsAnswer}
 use Rattle.doc_store_readers.specs.Pages.{Page}
-use Rattle.doc_store.specs.Store.{StoreState, fits_in, may_move, moved_by, moved_in, put_by, put_into, without_page}
+use Rattle.doc_store.specs.Store.{StoreState, aliases_after, fits_in, may_move, move_fits, moved_by, moved_in, put_by, put_into}
+use Rattle.doc_store.specs.Store.{without_page}
 use Rattle.doc_store.specs.declared.moving.MoveError.{MoveError}
 use Rattle.doc_store.specs.declared.moving.MoveError.TheVariants as move_errors
 use Rattle.doc_store.specs.declared.store.EditError.{EditError}
@@ -12,6 +13,7 @@ use Rattle.doc_store.specs.declared.store.EditError.TheVariants as edit_errors
 use Rattle.doc_store.specs.declared.store.Put.{Put}
 use Rattle.doc_store.proofs.StoreSteps.{taken_out}
 use Rattle.doc_store_readers.specs.Readers.{ReaderTable}
+use Rattle.doc_media.specs.Media.{Media}
 use Rattle.doc_people.specs.declared.settings.Settings.{Settings}
 use Rattle.doc_http.specs.Requests.{IsNext}
 use Rattle.doc_http.specs.declared.request.Request.{Request}
@@ -19,7 +21,8 @@ use Rattle.doc_http.specs.declared.request.Next.TheVariants as nexts
 use Rattle.doc_hub.specs.Connections.{Connections, finished}
 use Rattle.doc_hub_answers.specs.Edits.{regrouped, store_after}
 use Rattle.doc_hub_answers.specs.Replies.{Renders}
-use Rattle.doc_hub.specs.Worlds.{Answers, Stays, Steps, StepsAt, World, answer_in, step_said, stepped_by, with_finished, with_store}
+use Rattle.doc_hub.specs.Worlds.{Answers, Stays, Steps, StepsAt, World, answer_in, has_medium, step_said, stepped_by, with_finished}
+use Rattle.doc_hub.specs.Worlds.{with_store}
 use Rattle.doc_hub.specs.Worlds.{world_after, world_moved, world_put, world_removed}
 use Rattle.doc_hub_answers.specs.declared.answer.Answer.{Answer}
 use Rattle.doc_hub.specs.declared.connection.Connection.{Connection}
@@ -87,10 +90,23 @@ gives_so {X = X} {E = E} memory w given bare_given store new (Ok x) alike answer
 gives_so memory w given bare_given store new (Err e) alike answer gives =
     (subst (λ said. IsAnswer memory said (Err e)) (sym answer) gives.0, ap (with_store w) gives.1)
 
--- the world of a hub with this store
-abbrev pub world_of : StoreState → Bool → ReaderTable → Settings → ℕ → Connections → World
-world_of store takes readers settings given connections = record {
+-- whether a move is refused, by whether a medium stands at the new path
+unless_taken : (stands taken medium : Bool) (aliases puts : ℕ) → (stands && medium) ≡ false
+    → move_fits stands (taken || medium) aliases puts ≡ move_fits stands taken aliases puts
+unless_taken true true true aliases puts e = refl
+unless_taken true false true aliases puts e = absurd (unlike e)
+  where
+    unlike : true ≡ false → ⊥
+    unlike h = cc
+unless_taken true true false aliases puts e = refl
+unless_taken true false false aliases puts e = refl
+unless_taken false taken medium aliases puts e = refl
+
+-- the world of a hub with this store and these media
+abbrev pub world_of : StoreState → Media → Bool → ReaderTable → Settings → ℕ → Connections → World
+world_of store media takes readers settings given connections = record {
   site = store.site;
+  media = media;
   puts = store.puts;
   takes_puts = takes;
   readers = readers;
@@ -99,32 +115,47 @@ world_of store takes readers settings given connections = record {
   connections = connections;
 }
 
-module _ (takes : Bool) (readers : ReaderTable) (settings : Settings) (given : ℕ) (connections : Connections) (store new : StoreState) (w : World)
-    (view_is : world_of store takes readers settings given connections ≡ w) where
+module _ (media : Media) (takes : Bool) (readers : ReaderTable) (settings : Settings) (given : ℕ) (connections : Connections)
+    (store new : StoreState)
+    (w : World) (view_is : world_of store media takes readers settings given connections ≡ w) where
   abbrev before : World
-  before = world_of store takes readers settings given connections
+  before = world_of store media takes readers settings given connections
 
   abbrev after : World
-  after = world_of new takes readers settings given connections
+  after = world_of new media takes readers settings given connections
 
-  pub put_so : (path : List ℕ) (groups : List (List ℕ)) (text : List ℕ) (r : Result Put EditError)
+  -- a put where no medium stands is the store's
+  pub put_so : (path : List ℕ) (groups : List (List ℕ)) (text : List ℕ) (r : Result Put EditError) (medium : Bool)
+      → medium ≡ has_medium w.media path → medium ≡ false
       → Gives edit_errors.Memory (put_into store path groups text) store new r
       → Gives edit_errors.Memory (world_put w path groups text) w after r
-  put_so path groups text r gives =
+  put_so path groups text r medium is none gives =
       let page : Page = record { groups = groups; text = text } in
       let stands = map.contains_key store.site.pages path in
       let said = fits_in store path text in
+      let By : Bool → Type 0 = λ t. Gives edit_errors.Memory
+      (let q = put_by (bare store) path page stands (if t then Err edit_errors.Taken else said) in (with_store before q.0, q.1))
+      before after r in
       subst (λ v. Gives edit_errors.Memory (world_put v path groups text) v after r) view_is
+      (subst By (sym (ap (λ (v : World). has_medium v.media path) view_is ∙ sym is ∙ none))
       (gives_so edit_errors.Memory before (put_into store path groups text) (put_into (bare store) path groups text) store new r
-      (put_alike store path page stands said) (put_answer store path page stands said) gives)
+      (put_alike store path page stands said) (put_answer store path page stands said) gives))
 
-  pub move_so : (from to : List ℕ) (r : Result (Unit {0}) MoveError) → Gives move_errors.Memory (moved_in store from to) store new r
+  -- a move is the store's, unless a page stands at the old path and a medium at the new one
+  pub move_so : (from to : List ℕ) (r : Result (Unit {0}) MoveError) (onto : Bool)
+      → onto ≡ (map.contains_key w.site.pages from && has_medium w.media to) → onto ≡ false
+      → Gives move_errors.Memory (moved_in store from to) store new r
       → Gives move_errors.Memory (world_moved w from to) w after r
-  move_so from to r gives =
+  move_so from to r onto is none gives =
       let said = may_move store from to in
+      let By : Result (Unit {0}) MoveError → Type 0 = λ may. Gives move_errors.Memory
+      (let q = moved_by (bare store) from to may in (with_store before q.0, q.1)) before after r in
       subst (λ v. Gives move_errors.Memory (world_moved v from to) v after r) view_is
+      (subst By (sym (unless_taken (map.contains_key store.site.pages from) (map.contains_key store.site.pages to) (has_medium media to)
+      (map.len (aliases_after store.site.aliases from to)) store.puts
+      (ap (λ (v : World). map.contains_key v.site.pages from && has_medium v.media to) view_is ∙ sym is ∙ none)))
       (gives_so move_errors.Memory before (moved_in store from to) (moved_in (bare store) from to) store new r
-      (move_alike store from to said) (move_answer store from to said) gives)
+      (move_alike store from to said) (move_answer store from to said) gives))
 
   pub remove_so : (path : List ℕ) (r : Bool) → r ≡ map.contains_key store.site.pages path → new ≡ without_page store path
       → ◌≡◌ {A = World × Bool} (world_removed w path) (after, r)
@@ -134,32 +165,33 @@ module _ (takes : Bool) (readers : ReaderTable) (settings : Settings) (given : �
 
 -- ---- a step that answers a request
 
-module _ (render : Renders) (takes : Bool) (readers : ReaderTable) (settings : Settings) (given : ℕ) (connections after : Connections)
+module _ (render : Renders) (media : Media) (takes : Bool) (readers : ReaderTable) (settings : Settings) (given : ℕ)
+    (connections after : Connections)
     (store new : StoreState)
-    (w : World) (view_is : world_of store takes readers settings given connections ≡ w) (id : ℕ) (c : Connection)
+    (w : World) (view_is : world_of store media takes readers settings given connections ≡ w) (id : ℕ) (c : Connection)
     (found : Some c ≡ map.get connections id) (is_open : c.closed ≡ false) (used : ℕ) (request : Request)
     (begins : IsNext c.unread (nexts.Request used request)) (answer : Answer)
-    (answer_is : answer ≡ answer_in render (world_of store takes readers settings given connections) request)
+    (answer_is : answer ≡ answer_in render (world_of store media takes readers settings given connections) request)
     (made : new ≡ store_after store request.body answer.edit)
     (set : after ≡ map.insert connections id (finished c used answer.closes)) where
   abbrev left_by : World
-  left_by = world_of new takes readers settings given after
+  left_by = world_of new media takes readers settings given after
 
   edited : bare (store_after (bare store) request.body answer.edit) ≡ bare new
   edited = after_alike store request.body answer.edit ∙ ap bare (sym made)
 
   stepped : ◌≡◌ {A = World × Result Step StepError}
-      (stepped_by render (world_of store takes readers settings given connections) id c (nexts.Request used request))
+      (stepped_by render (world_of store media takes readers settings given connections) id c (nexts.Request used request))
       (left_by, Ok (step_said answer.closes answer.bytes))
   stepped =
-      let old = world_of store takes readers settings given connections in
+      let old = world_of store media takes readers settings given connections in
       ap (λ (a : Answer). (with_finished (world_after old request a) id c used a.closes, Ok (step_said a.closes a.bytes))) (sym answer_is)
-      ∙ (λ i. (world_of (edited i) takes readers settings given (sym set i), Ok (step_said answer.closes answer.bytes)))
+      ∙ (λ i. (world_of (edited i) media takes readers settings given (sym set i), Ok (step_said answer.closes answer.bytes)))
 
   pub request_answered : (shown : Renders) → render ≡ shown → (said : Step) → said ≡ step_said answer.closes answer.bytes
       → Steps shown w id left_by (Ok said)
   request_answered shown same said said_is =
-      let old = world_of store takes readers settings given connections in
+      let old = world_of store media takes readers settings given connections in
       let Of : Bool → Type 0 = λ closed. MatchBool closed (Stays old (Ok steps.Closed) left_by (Ok said))
       (Answers render old id left_by (Ok said) c) in
       subst (λ (r : Renders). Steps r w id left_by (Ok said)) same (

@@ -1,6 +1,6 @@
 -- No event but the one for that changes whether the server takes puts.
-use Rattle.std.proofs.Common.{◌≡◌, ℕ, Bool, true, false, refl, ap, sym, ◌∙◌, subst}
-use Rattle.std.specs.Prelude.{All, List, MatchBool, Option, Some, None, Result, Ok, Err, nat_lt}
+use Rattle.std.proofs.Common.{◌≡◌, ℕ, Bool, true, false, refl, ap, ◌∙◌}
+use Rattle.std.specs.Prelude.{MatchBool, Option, Some, None, Result, Ok, Err, nat_lt}
 use Rattle.std.specs.FinMap as map
 use Rattle.std.proofs.lemmas.List.Elements.{All-head, All-tail}
 use Rattle.doc_http.specs.declared.request.Next.{Next}
@@ -18,7 +18,7 @@ use Rattle.doc_hub_events.specs.declared.refusal.PushError.TheVariants as push_e
 use Rattle.doc_hub_events.specs.declared.refusal.StepError.{StepError}
 use Rattle.doc_hub_events.specs.declared.refusal.StepError.TheVariants as step_errors
 use Rattle.doc_hub.specs.FreshLaws.{IsNoTaking, TakingStands}
-use Rattle.doc_hub.specs.Runs.{Happened, Happens, HappensOn, Runs, nothing, first}
+use Rattle.doc_hub.specs.Runs.{Happened, Happens, HappensOn, nothing, first}
 use Rattle.doc_hub.specs.Worlds.{World, Answers, Stays, StepsAt, connected, disconnected, last_id, stepped_by, world_pushed}
 use Rattle.doc_hub.specs.declared.connection.Connection.{Connection}
 use Rattle.doc_hub.proofs.KindSteps.{by_equation, by_gives, leaves_all_but_readers, leaves_all_but_site}

@@ -9,6 +9,7 @@ use Rattle.doc_hub_answers.specs.Edits.{puts_taken}
 use Rattle.doc_hub_answers.specs.Replies.{Renders}
 use Rattle.doc_hub_answers.specs.declared.edit.Edit.{Edit}
 use Rattle.doc_hub_replies.specs.Answers.{is_for_people}
+use Rattle.doc_media.specs.Media.{beside_of}
 use Rattle.doc_hub.specs.StepEdits.{TellsAt, edit_of_step}
 use Rattle.doc_hub.specs.Worlds.{World, asking_of, reader_of}
 use Rattle.doc_hub.specs.declared.connection.Connection.{Connection}
@@ -21,9 +22,12 @@ module _ (render : Renders) (w : World) where
   next_at_paths nexts.More = tt
   next_at_paths (nexts.Fault code bare) = tt
   next_at_paths (nexts.Request used request) =
-      answer_holds AtPaths tt render (view_of w.site (reader_of w request)) (asking_of w request) (puts_taken w.takes_puts w.puts) request
-      (response_at_paths render (view_of w.site (reader_of w request)) (reader_of w request) (puts_taken w.takes_puts w.puts) request)
-      (λ browse. edits_at_paths (view_of w.site (reader_of w request)) (puts_taken w.takes_puts w.puts) request render browse (is_for_people request)
+      answer_holds AtPaths tt render (view_of w.site (reader_of w request)) (beside_of w.media (reader_of w request)) (asking_of w request)
+      (puts_taken w.takes_puts w.puts) request
+      (response_at_paths render (view_of w.site (reader_of w request)) (beside_of w.media (reader_of w request)) (reader_of w request)
+      (puts_taken w.takes_puts w.puts) request)
+      (λ browse. edits_at_paths (view_of w.site (reader_of w request)) (puts_taken w.takes_puts w.puts) request
+      (beside_of w.media (reader_of w request)) render browse (is_for_people request)
       (asking_of w request)) w.settings
 
   open_at_paths : (c : Connection) (told : Option Edit) (closed : Bool)

@@ -7,15 +7,16 @@ use Rattle.doc_http.specs.declared.request.Next.{Next}
 use Rattle.doc_http.specs.declared.request.Next.TheVariants as nexts
 use Rattle.doc_hub_answers.specs.Counts.{RendersPuts, previews_of}
 use Rattle.doc_hub_answers.specs.Replies.{Renders}
+use Rattle.doc_store_readers.specs.Sites.{view_of}
+use Rattle.doc_media.specs.Media.{beside_of}
 use Rattle.doc_hub_replies.specs.Answers.{shows_preview}
 use Rattle.doc_shelf.specs.Shelves.{rendered_for}
-use Rattle.doc_store.specs.Store.{fits_in}
 use Rattle.doc_store.specs.declared.site_edit.SiteEdit.{SiteEdit}
 use Rattle.doc_store.specs.declared.site_edit.SiteEdit.TheVariants as site_edits
 use Rattle.doc_hub.specs.EditLaws.{Makes}
 use Rattle.doc_hub_events.specs.Events.{Said, SaidOn, step_on, stepping}
 use Rattle.doc_hub.specs.Runs.{Happened, RunsAll}
-use Rattle.doc_hub.specs.Worlds.{World, asking_of, store_of}
+use Rattle.doc_hub.specs.Worlds.{World, asking_of, may_put, reader_of, store_of}
 use Rattle.doc_hub.specs.declared.connection.Connection.{Connection}
 use Rattle.doc_hub_events.specs.declared.event.ConnId.{ConnId}
 use Rattle.doc_hub_events.specs.declared.event.ConnectionEvent.{ConnectionEvent}
@@ -35,7 +36,9 @@ moves_in_edit edit = 0
 
 -- how many previews the reply to what the unread bytes begin with is
 abbrev pub previews_by : World → Next → ℕ
-previews_by w (nexts.Request used request) = previews_of (shows_preview w.settings.browse (asking_of w request) request)
+previews_by w (nexts.Request used request) =
+    previews_of (shows_preview w.settings.browse (view_of w.site (reader_of w request)) (beside_of w.media (reader_of w request))
+    (asking_of w request) request)
 previews_by w next = 0
 
 -- how many previews a step that answered showed: a closed connection shows none
@@ -97,7 +100,7 @@ CountsOn render rendered w rendered' v id call said = rendered' ≡ rendered
 
 abbrev pub CountsSite : ℕ → World → ℕ → SiteEdit → Type 0
 CountsSite rendered w rendered' (site_edits.Put path groups text) =
-    rendered' ≡ rendered + rendered_for (fits_in (store_of w) path text)
+    rendered' ≡ rendered + rendered_for (may_put w.media (store_of w) path text)
 CountsSite rendered w rendered' edit = rendered' ≡ rendered
 
 abbrev pub CountsFor : Renders → ℕ → World → ℕ → World → (event : Event) → Said event → Type 0

@@ -3,6 +3,7 @@ use Rattle.std.specs.Prelude.{◌≡◌, ◌≤◌, ◌+◌, ℕ, All, List, len
 use Rattle.std.specs.FinMap as map
 use Rattle.doc_store_readers.specs.declared.reader.Reader.{Reader}
 use Rattle.doc_store_readers.specs.Sites.{Site, empty_site}
+use Rattle.doc_media.specs.Media.{Media}
 use Rattle.doc_store.specs.Store.{put_limit}
 use Rattle.doc_store_readers.specs.Readers.{ReaderTable}
 use Rattle.doc_hub_asking.specs.Asking.{known_of}
@@ -21,7 +22,7 @@ use Rattle.doc_hub_events.specs.declared.refusal.StepError.TheVariants as step_e
 use Rattle.doc_hub_answers.specs.Edits.{puts_left, puts_taken}
 use Rattle.doc_hub_answers.specs.Replies.{Renders}
 use Rattle.doc_hub.specs.Runs.{Happens, Happened, Runs}
-use Rattle.doc_hub.specs.StepLaws.{connection, is_owners_put, open_with, site_seen}
+use Rattle.doc_hub.specs.StepLaws.{connection, is_owners_put, media_seen, open_with, site_seen}
 use Rattle.doc_hub.specs.Worlds.{World, asking_of, new_world, reader_of, token_of}
 
 -- ---- the fresh server
@@ -31,11 +32,12 @@ abbrev pub only_reader : Option (List ℕ) → Option Reader → ReaderTable
 only_reader (Some token) (Some reader) = map.insert map.empty token reader
 only_reader token reader = map.empty
 
--- a server that takes puts and holds only this site, after so many puts and moves, and this reader, with one connection
-abbrev pub fresh : ℕ → Site → Option (List ℕ) → Option Reader → Settings → List ℕ → World
-fresh puts site token reader settings unread =
+-- a server that takes puts and holds only this site with these media, after so many puts and moves, and this reader, with one connection
+abbrev pub fresh : ℕ → Site → Media → Option (List ℕ) → Option Reader → Settings → List ℕ → World
+fresh puts site media token reader settings unread =
     record {
       site = site;
+      media = media;
       puts = puts;
       takes_puts = true;
       readers = only_reader token reader;
@@ -47,8 +49,8 @@ fresh puts site token reader settings unread =
 -- the fresh server for a request, of what its reader may see in this world; where there is no request, any will do
 abbrev pub fresh_for : ℕ → World → List ℕ → Next → World
 fresh_for puts w unread (nexts.Request used request) =
-    fresh puts (site_seen w request) (token_of w request) (known_of (asking_of w request)) w.settings unread
-fresh_for puts w unread next = fresh puts empty_site None None w.settings unread
+    fresh puts (site_seen w request) (media_seen w request) (token_of w request) (known_of (asking_of w request)) w.settings unread
+fresh_for puts w unread next = fresh puts empty_site None None None w.settings unread
 
 abbrev pub first_connection : ConnId
 first_connection = record { 0 = 1 }
@@ -116,8 +118,8 @@ TakingStands =
 -- a run of fewer than 2^64 - 1 events from a new server leaves a put; and it is taken, where none of the events was to say whether to
 abbrev pub PutsAreLeft : Type 0
 PutsAreLeft =
-    (render : Renders) (readers : ReaderTable) (settings : Settings) (v : World) (run : List Happened)
-    → Runs render (new_world readers settings) run v → nat_lt (length run) put_limit ≡ true
+    (render : Renders) (readers : ReaderTable) (settings : Settings) (media : Media) (v : World) (run : List Happened)
+    → Runs render (new_world readers settings media) run v → nat_lt (length run) put_limit ≡ true
     → (puts_left v.puts ≡ true) × (All (λ h. IsNoTaking h.event) run → puts_taken v.takes_puts v.puts ≡ true)
 
 -- what a step answered, where the server takes puts, is what the step of that fresh server answers, whether or not a put is left
@@ -129,5 +131,5 @@ SendsAsFreshAlways render h =
 -- Noninterference from a new server, in a run of fewer than 2^64 - 1 events: nothing is asked of how many puts were accepted.
 abbrev pub NewRepliesAsFresh : Type 0
 NewRepliesAsFresh =
-    (render : Renders) (readers : ReaderTable) (settings : Settings) (v : World) (run : List Happened)
-    → Runs render (new_world readers settings) run v → nat_lt (length run) put_limit ≡ true → All (SendsAsFreshAlways render) run
+    (render : Renders) (readers : ReaderTable) (settings : Settings) (media : Media) (v : World) (run : List Happened)
+    → Runs render (new_world readers settings media) run v → nat_lt (length run) put_limit ≡ true → All (SendsAsFreshAlways render) run

@@ -7,6 +7,7 @@ pub mod EditingLaws
 pub mod FreshLaws
 pub mod HiddenLaws
 pub mod MadeLaws
+pub mod MediaLaws
 pub mod RunLaws
 pub mod RunParts
 pub mod Runs

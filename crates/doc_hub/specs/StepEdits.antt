@@ -17,7 +17,7 @@ use Rattle.doc_hub_answers.specs.declared.edit.Edit.TheVariants as edits
 use Rattle.doc_hub_answers.specs.Replies.{Renders}
 use Rattle.doc_hub.specs.EditLaws.{with_groups}
 use Rattle.doc_hub.specs.Runs.{Happens}
-use Rattle.doc_hub.specs.Worlds.{World, answer_in, store_of}
+use Rattle.doc_hub.specs.Worlds.{World, answer_in, has_medium, store_of}
 
 -- the answer of a step without the edit beside it
 abbrev pub step_in : Result (Step × Option Edit) StepError → Result Step StepError
@@ -40,12 +40,13 @@ StepTells render w id edit = TellsAt render w (map.get w.connections id) edit
 
 -- ---- what it changes
 
--- a page for these groups that fits was put under the path, where it stands then
+-- a page for these groups that fits was put under the path, which is no medium's, where it stands then
 pub record WasPut (w v : World) (path : List ℕ) (groups : List (List ℕ)) : Type 0 where
   pub page : Page
   pub for_groups : page.groups ≡ groups
   pub stands : map.get v.site.pages path ≡ Some page
   pub fits : fits_in (store_of w) path page.text ≡ Ok tt
+  pub apart : has_medium w.media path ≡ false
   pub site : v.site ≡ effect_of w.site (set_page path page)
 
 -- a page stood under the path, and stands there for these groups; its text stayed
@@ -56,10 +57,11 @@ pub record WasRegrouped (w v : World) (path : List ℕ) (groups : List (List ℕ
   pub fits : fits_in (store_of w) path page.text ≡ Ok tt
   pub site : v.site ≡ effect_of w.site (with_groups path groups page)
 
--- a page stood under the old path and none under the new one, and it went there
+-- a page stood under the old path, and none, nor a medium, under the new one, and it went there
 pub record WasMoved (w v : World) (from to : List ℕ) : Type 0 where
   pub stood : map.contains_key w.site.pages from ≡ true
   pub free : map.contains_key w.site.pages to ≡ false
+  pub apart : has_medium w.media to ≡ false
   pub site : v.site ≡ effect_of w.site (move_page from to)
 
 -- a page stood under the path and was removed

@@ -3,6 +3,7 @@ use Rattle.std.specs.Prelude.{◌≡◌, ℕ, List, Bool, true, false, ◌&&◌,
 use Rattle.std.specs.FinMap as map
 use Rattle.doc_store_readers.specs.declared.reader.Reader.{Reader}
 use Rattle.doc_store_readers.specs.Sites.{Site, visible_to}
+use Rattle.doc_media.specs.Media.{Media, media_visible_to}
 use Rattle.doc_http.specs.Requests.{IsNext}
 use Rattle.doc_http.specs.declared.request.Request.{Request}
 use Rattle.doc_http.specs.declared.request.Next.{Next}
@@ -20,17 +21,22 @@ use Rattle.doc_hub.specs.Worlds.{World, answer_in, asking_of, reader_of}
 abbrev pub site_seen : World → Request → Site
 site_seen w request = visible_to w.site (reader_of w request)
 
+-- and of its media
+abbrev pub media_seen : World → Request → Media
+media_seen w request = media_visible_to w.media (reader_of w request)
+
 -- whether the request is a PUT of an owner, the one whose answer knows whether puts are taken and one is left
 abbrev pub is_owners_put : Option Reader → Request → Bool
 is_owners_put None request = false
 is_owners_put (Some reader) request = reader.owner && bytes_eq request.method (codes "PUT")
 
--- two worlds are alike for a request: the same settings, the same who asks, and one view; and where an owner puts a page, a put is taken
--- in both or in neither
+-- two worlds are alike for a request: the same settings, the same who asks, one view, and the same media beside it; and where an owner puts
+-- a page, a put is taken in both or in neither
 pub record Agree (w v : World) (request : Request) : Type 0 where
   pub settings : w.settings ≡ v.settings
   pub asking : asking_of w request ≡ asking_of v request
   pub sites : site_seen w request ≡ site_seen v request
+  pub beside : media_seen w request ≡ media_seen v request
   pub puts : is_owners_put (reader_of w request) request ≡ true → puts_taken w.takes_puts w.puts ≡ puts_taken v.takes_puts v.puts
 
 -- alike for what the unread bytes begin with: a fault, and what is no request yet, ask for nothing

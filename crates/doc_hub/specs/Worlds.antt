@@ -1,16 +1,19 @@
 -- The world that a hub stands for, and one function of it for each call.
-use Rattle.std.specs.Prelude.{◌≡◌, ℕ, List, ◌+◌, ◌^◌, ◌-◌, Bool, true, nat_lt, nat_le, ◌&&◌, MatchBool, Option, Some, None, option_map}
-use Rattle.std.specs.Prelude.{Result, Ok, Err, if◌then◌else◌, refl}
-use Rattle.std.specs.Coded.{Coded, code_by, coded×, coded_bool, coded_ℕ}
+use Rattle.std.specs.Prelude.{◌≡◌, ℕ, List, ◌+◌, ◌^◌, ◌-◌, Bool, true, nat_lt, nat_le, ◌&&◌, ◌||◌, false, MatchBool, Option, Some, None}
+use Rattle.std.specs.Prelude.{option_map, Result, Ok, Err, if◌then◌else◌, refl}
+use Rattle.std.specs.Coded.{Coded, code_by, coded×, coded_bool, coded_list, coded_option, coded_ℕ}
 use Rattle.std.specs.FinMap as map
 use Rattle.doc_store_readers.specs.declared.reader.Reader.{Reader}
+use Rattle.doc_store_readers.specs.Pages.{page_code}
 use Rattle.doc_store_readers.specs.Sites.{Site, empty_site, site_code, view_of}
+use Rattle.doc_media.specs.Media.{Media, beside_of}
 use Rattle.doc_store_readers.specs.Readers.{ReaderTable, set_reader}
-use Rattle.doc_store.specs.Store.{StoreState, put_into, without_page, moved_in}
+use Rattle.doc_store.specs.Store.{StoreState, aliases_after, fits_in, move_fits, moved_by, put_by, without_page}
 use Rattle.doc_store.specs.declared.moving.MoveError.{MoveError}
 use Rattle.doc_store_readers.specs.declared.readers.ReaderError.{ReaderError}
 use Rattle.doc_store_readers.specs.declared.readers.Set.{Set}
 use Rattle.doc_store.specs.declared.store.EditError.{EditError}
+use Rattle.doc_store.specs.declared.store.EditError.TheVariants as edit_errors
 use Rattle.doc_store.specs.declared.store.Put.{Put}
 use Rattle.doc_http.specs.Passwords.{token_in}
 use Rattle.doc_shelf_pages.specs.Views.{report_body}
@@ -37,10 +40,11 @@ use Rattle.doc_hub_events.specs.declared.refusal.PushError.{PushError}
 use Rattle.doc_hub_events.specs.declared.refusal.StepError.{StepError}
 use Rattle.doc_hub_events.specs.declared.refusal.StepError.TheVariants as step_errors
 
--- the site, how many puts and moves were accepted, whether puts are taken, the readers, the settings, the number of connections given,
--- and the connections by number; no reply knows the stamp of a page
+-- the site, its media, how many puts and moves were accepted, whether puts are taken, the readers, the settings, the number of connections
+-- given, and the connections by number; no reply knows the stamp of a page, and no call changes the media
 pub record World : Type 0 where
   pub site : Site
+  pub media : Media
   pub puts : ℕ
   pub takes_puts : Bool
   pub readers : ReaderTable
@@ -48,26 +52,32 @@ pub record World : Type 0 where
   pub given : ℕ
   pub connections : Connections
 
+abbrev pub media_code : Coded Media
+media_code = coded_option (map.code (coded_list coded_ℕ) page_code)
+
 -- a world as its parts, which tell worlds apart
 abbrev pub world_code : Coded ReaderTable → Coded Settings → Coded Connection → Coded World
 world_code readers settings one =
-    code_by (Site × (ℕ × (Bool × (ReaderTable × (Settings × (ℕ × Connections))))))
-    (coded× site_code (coded× coded_ℕ (coded× coded_bool (coded× readers (coded× settings (coded× coded_ℕ (map.code coded_ℕ one)))))))
-    (λ w. (w.site, (w.puts, (w.takes_puts, (w.readers, (w.settings, (w.given, w.connections)))))))
+    code_by (Site × (Media × (ℕ × (Bool × (ReaderTable × (Settings × (ℕ × Connections)))))))
+    (coded× site_code (coded× media_code (coded× coded_ℕ (coded× coded_bool (coded× readers (coded× settings (coded× coded_ℕ (map.code
+    coded_ℕ one))))))))
+    (λ w. (w.site, (w.media, (w.puts, (w.takes_puts, (w.readers, (w.settings, (w.given, w.connections))))))))
     (λ p. record {
       site = p.0;
-      puts = p.1.0;
-      takes_puts = p.1.1.0;
-      readers = p.1.1.1.0;
-      settings = p.1.1.1.1.0;
-      given = p.1.1.1.1.1.0;
-      connections = p.1.1.1.1.1.1;
+      media = p.1.0;
+      puts = p.1.1.0;
+      takes_puts = p.1.1.1.0;
+      readers = p.1.1.1.1.0;
+      settings = p.1.1.1.1.1.0;
+      given = p.1.1.1.1.1.1.0;
+      connections = p.1.1.1.1.1.1.1;
     }) (λ _. refl)
 
 -- a server without pages and connections, which takes puts
-abbrev pub new_world : ReaderTable → Settings → World
-new_world readers settings = record {
+abbrev pub new_world : ReaderTable → Settings → Media → World
+new_world readers settings media = record {
   site = empty_site;
+  media = media;
   puts = 0;
   takes_puts = true;
   readers = readers;
@@ -85,9 +95,9 @@ abbrev pub is_capacity : ℕ → Bool
 is_capacity n = nat_le 1 n && nat_le n 4096
 
 -- the renderer and the world of a new hub
-abbrev pub hub_made : {R : Type 0} → R → ReaderTable → Settings → ℕ → Result (R × World) HubError
-hub_made renderer readers settings capacity =
-    if is_capacity capacity then Ok (renderer, new_world readers settings) else Err hub_errors.BadCapacity
+abbrev pub hub_made : {R : Type 0} → R → ReaderTable → Settings → Media → ℕ → Result (R × World) HubError
+hub_made renderer readers settings media capacity =
+    if is_capacity capacity then Ok (renderer, new_world readers settings media) else Err hub_errors.BadCapacity
 
 unfoldable pub last_id : ℕ
 last_id = 2 ^ 64 - 1
@@ -123,10 +133,11 @@ token_of w request = token_in (login_of w.settings.browse) request.authorization
 abbrev pub reader_of : World → Request → Option Reader
 reader_of w request = row_of (asking_of w request)
 
--- the answer to a request, from what its reader may see
+-- the answer to a request, from what its reader may see of the site and of its media
 abbrev pub answer_in : Renders → World → Request → Answer
 answer_in render w request =
-    answer_of w.settings render (view_of w.site (reader_of w request)) (asking_of w request) (puts_taken w.takes_puts w.puts) request
+    answer_of w.settings render (view_of w.site (reader_of w request)) (beside_of w.media (reader_of w request)) (asking_of w request)
+    (puts_taken w.takes_puts w.puts) request
 
 -- the world's site and puts as a store's, whose edits are the world's: which stamps its pages have changes nothing else, so they have none
 abbrev pub store_of : World → StoreState
@@ -173,11 +184,42 @@ StepsAt render old id new result (Some c) =
 abbrev pub Steps : Renders → World → ℕ → World → Result Step StepError → Type 0
 Steps render old id new result = StepsAt render old id new result (map.get old.connections id)
 
+-- ---- media
+
+-- whether a medium stands under a path, seen or not
+abbrev pub has_medium : Media → List ℕ → Bool
+has_medium None path = false
+has_medium (Some held) path = map.contains_key held path
+
+-- No path is both a medium's and a page's, nor a medium's and an alias.
+pub record IsApart (site : Site) (media : Media) : Type 0 where
+  pub pages : (path : List ℕ) → has_medium media path ≡ true → map.contains_key site.pages path ≡ false
+  pub aliases : (path : List ℕ) → has_medium media path ≡ true → map.contains_key site.aliases path ≡ false
+
 -- ---- edits of the site and of the readers, as the store makes them: whether puts are taken, requests alone ask
+
+-- whether a put of a text under a path is refused: first where a medium stands there
+abbrev pub may_put : Media → StoreState → List ℕ → List ℕ → Result (Unit {0}) EditError
+may_put media store path text = if has_medium media path then Err edit_errors.Taken else fits_in store path text
+
+-- the store after a put of a page beside media, and the answer
+abbrev pub put_beside : Media → StoreState → List ℕ → List (List ℕ) → List ℕ → StoreState × Result Put EditError
+put_beside media store path groups text =
+    put_by store path (record { groups = groups; text = text }) (map.contains_key store.site.pages path) (may_put media store path text)
+
+-- whether a move from one path to another is refused: the new path is taken where a page or a medium stands there
+abbrev pub may_move_beside : Media → StoreState → List ℕ → List ℕ → Result (Unit {0}) MoveError
+may_move_beside media store from to =
+    move_fits (map.contains_key store.site.pages from) (map.contains_key store.site.pages to || has_medium media to)
+    (map.len (aliases_after store.site.aliases from to)) store.puts
+
+-- the store after a move beside media, and the answer
+abbrev pub moved_beside : Media → StoreState → List ℕ → List ℕ → StoreState × Result (Unit {0}) MoveError
+moved_beside media store from to = moved_by store from to (may_move_beside media store from to)
 
 -- a put of a page with these groups and this text under a path
 abbrev pub world_put : World → List ℕ → List (List ℕ) → List ℕ → World × Result Put EditError
-world_put w path groups text = let r = put_into (store_of w) path groups text in (with_store w r.0, r.1)
+world_put w path groups text = let r = put_beside w.media (store_of w) path groups text in (with_store w r.0, r.1)
 
 -- the page of a path is removed, and whether one stood there
 abbrev pub world_removed : World → List ℕ → World × Bool
@@ -185,7 +227,7 @@ world_removed w path = (with_store w (without_page (store_of w) path), map.conta
 
 -- a move of the page of one path to another
 abbrev pub world_moved : World → List ℕ → List ℕ → World × Result (Unit {0}) MoveError
-world_moved w from to = let r = moved_in (store_of w) from to in (with_store w r.0, r.1)
+world_moved w from to = let r = moved_beside w.media (store_of w) from to in (with_store w r.0, r.1)
 
 -- the reader of a token is set
 abbrev pub world_reader_set : World → List ℕ → Reader → World × Result Set ReaderError
@@ -203,4 +245,5 @@ world_taking w takes = record w { takes_puts = takes }
 
 -- the broken links of what the reader of a token sees, where there is such a reader: as lines of text
 abbrev pub report_in : Renders → World → List ℕ → Option (List ℕ)
-report_in render w token = option_map (λ reader. report_body render (view_of w.site (Some reader))) (map.get w.readers token)
+report_in render w token =
+    option_map (λ reader. report_body render (view_of w.site (Some reader)) (beside_of w.media (Some reader))) (map.get w.readers token)

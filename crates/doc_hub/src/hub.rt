@@ -10,7 +10,7 @@
 //! 3. The edit is made. Where it finds no memory the reply is dropped, and the request waits.
 //! 4. The bytes of the request are taken, and the connection closes or not; that takes no memory.
 
-ghost use Rattle.std.specs.Prelude.{◌≡◌, ◌+◌, false, IfOk, option_copied, option_map};
+ghost use Rattle.std.specs.Prelude.{◌≡◌, ◌+◌, ◌&&◌, false, None, IfOk, option_copied, option_map};
 ghost use Rattle.std.specs.FinMap as map;
 ghost use Rattle.std.specs.List.{list_any};
 ghost use Rattle.doc_page_parts.specs.Refusals.{IsAnswer};
@@ -18,9 +18,8 @@ ghost use Rattle.doc_hub.specs.Counts.{Counted, CountedAll, ran_out};
 ghost use Rattle.doc_hub_events.specs.Events.{disconnect_on, push_on, step_on, stepping};
 ghost use Rattle.doc_hub.specs.Runs.{Happens, Leaves, GivesRun};
 ghost use Rattle.doc_hub.specs.StepEdits.{StepTells, step_in};
-ghost use Rattle.doc_hub.specs.Worlds.{hub_made, plain_settings, report_in, store_of};
+ghost use Rattle.doc_hub.specs.Worlds.{has_medium, hub_made, may_put, plain_settings, report_in, store_of};
 ghost use Rattle.doc_shelf.specs.Shelves.{rendered_for};
-ghost use Rattle.doc_store.specs.Store.{fits_in};
 
 use crate::connection::Connection;
 use crate::connections::Connections;
@@ -34,6 +33,7 @@ use doc_hub_events::event::{ConnId, ConnectionEvent, Event, ReaderEdit, Step};
 use doc_hub_events::outcome::Outcome;
 use doc_hub_events::refusal::{ConnectError, HubError, PushError, StepError};
 use doc_hub_replies::serving::Serving;
+use doc_media::media::Media;
 use doc_page::renderer::Renderer;
 use doc_page_parts::failure::Memory;
 use doc_page_parts::heap::{Heap, Vec};
@@ -61,6 +61,7 @@ pub struct Hub<R: Renderer + Drop> {
     routes: Routes,
     readers: Readers,
     settings: Settings,
+    media: Option<Media>,
     shelf: Shelf<R>,
     takes_puts: bool,
     given: u64,
@@ -75,6 +76,7 @@ impl<R: Renderer + Drop> Drop for Hub<R> {
             routes: _,
             readers: _,
             settings: _,
+            media: _,
             shelf: _,
             takes_puts: _,
             given: _,
@@ -99,6 +101,7 @@ impl<R: Renderer + Drop> Model for Hub<R> {
       h.shelf.0,
       record {
         site = h.shelf.1.site;
+        media = h.media;
         puts = h.shelf.1.puts;
         takes_puts = h.takes_puts;
         readers = h.readers;
@@ -123,7 +126,7 @@ impl<R: Renderer + Drop> Hub<R> {
         cache: usize,
     ) -> Result<Self, HubError>
         ensures { IsAnswer HubError.Memory
-            (hub_made renderer readers (plain_settings keep_alive) cache) result }
+            (hub_made renderer readers (plain_settings keep_alive) None cache) result }
     {
         let settings = Settings {
             keep_alive,
@@ -141,7 +144,21 @@ impl<R: Renderer + Drop> Hub<R> {
         settings: Settings,
         cache: usize,
     ) -> Result<Self, HubError>
-        ensures { IsAnswer HubError.Memory (hub_made renderer readers settings cache) result }
+        ensures { IsAnswer HubError.Memory (hub_made renderer readers settings None cache) result }
+    {
+        Hub::with_media(heap, renderer, readers, settings, cache, None)
+    }
+
+    /// The same with these media beside the pages, which no event changes, or with none at all: then no path is kept for any.
+    pub fn with_media(
+        heap: Heap,
+        renderer: R,
+        readers: Readers,
+        settings: Settings,
+        cache: usize,
+        media: Option<Media>,
+    ) -> Result<Self, HubError>
+        ensures { IsAnswer HubError.Memory (hub_made renderer readers settings media cache) result }
     {
         if cache < 1 || cache > 4096 {
             return Err(HubError::BadCapacity);
@@ -154,6 +171,7 @@ impl<R: Renderer + Drop> Hub<R> {
             routes: Routes::new(heap)?,
             readers,
             settings,
+            media,
             shelf,
             takes_puts: true,
             given: 0,
@@ -236,6 +254,7 @@ impl<R: Renderer + Drop> Hub<R> {
                     routes: &self.routes,
                     readers: &self.readers,
                     settings: &self.settings,
+                    media: &self.media,
                     takes_puts: self.takes_puts,
                 };
                 let answer = serving.answer(&mut self.shelf, &request)?;
@@ -289,14 +308,28 @@ impl<R: Renderer + Drop> Hub<R> {
         self.shelf.store().get(path)
     }
 
-    /// Puts a page under a path, in place of the one that stands there.
+    /// Whether a medium stands under a path, seen or not.
+    fn has_medium(&self, path: &Path) -> bool
+        ensures { result ≡ has_medium self.now.1.media path.now }
+    {
+        match &self.media {
+            Some(media) => media.contains(path),
+            None => false,
+        }
+    }
+
+    /// Puts a page under a path, in place of the one that stands there. Refused are, in this order, `Taken`, where a medium stands
+    /// there, `TooLong`, `StoreFull` and `Memory`.
     pub fn put_page(&mut self, path: &Path, groups: &Groups, text: &str) -> Result<Put, EditError>
         ensures world { Happens (R.page self.old.0) self.old.1
             (Event.Site (SiteEdit.Put path.now groups.now text.now)) self.new.1 result }
         ensures same { R.page self.new.0 ≡ R.page self.old.0 }
         ensures counted { R.count self.new.0 ≡ R.count self.old.0
-            + rendered_for (fits_in (store_of self.old.1) path.now text.now) }
+            + rendered_for (may_put self.old.1.media (store_of self.old.1) path.now text.now) }
     {
+        if self.has_medium(path) {
+            return Err(EditError::Taken);
+        }
         self.shelf.put(path, groups, text)
     }
 
@@ -312,14 +345,25 @@ impl<R: Renderer + Drop> Hub<R> {
     }
 
     /// Takes the page of one path to another, and leaves the old path as an alias of it. Refused are,
-    /// in this order, `NoPage`, `Taken`, `StoreFull` and `Memory`.
+    /// in this order, `NoPage`, `Taken`, where a page or a medium stands under the new path, `StoreFull` and `Memory`.
     pub fn move_page(&mut self, from: &Path, to: &Path) -> Result<(), MoveError>
         ensures world { Happens (R.page self.old.0) self.old.1
             (Event.Site (SiteEdit.Move from.now to.now)) self.new.1 result }
         ensures same { R.page self.new.0 ≡ R.page self.old.0 }
         ensures counted { R.count self.new.0 ≡ R.count self.old.0 }
     {
+        if self.moves_onto_medium(from, to) {
+            return Err(MoveError::Taken);
+        }
         self.shelf.move_page(from, to)
+    }
+
+    /// Whether a page stands under one path, and a medium under the other.
+    fn moves_onto_medium(&self, from: &Path, to: &Path) -> bool
+        ensures { result ≡ (map.contains_key self.now.1.site.pages from.now
+            && has_medium self.now.1.media to.now) }
+    {
+        self.page(from).is_some() && self.has_medium(to)
     }
 
     /// Sets the reader of a token, and no other. A request that a later step answers with it is that
@@ -365,7 +409,7 @@ impl<R: Renderer + Drop> Hub<R> {
         let Some(reader) = self.readers.find(token) else {
             return Ok(None);
         };
-        Ok(Some(self.shelf.report(reader)?))
+        Ok(Some(self.shelf.report(reader, &self.media)?))
     }
 
     /// Makes these events happen in their order, each in what those before it left, and answers what

@@ -7,15 +7,16 @@ ghost use Rattle.doc_hub.specs.EditLaws.{SiteIsOfEdits};
 ghost use Rattle.doc_hub.specs.EditingLaws.{NoPageIsReplacedUnasked, NoUpdateIsLost};
 ghost use Rattle.doc_hub.specs.FreshLaws.{NewRepliesAsFresh, PutsAreCounted, PutsAreLeft};
 ghost use Rattle.doc_hub.specs.FreshLaws.{RepliesAsFresh, TakingStands};
-ghost use Rattle.doc_hub.specs.HiddenLaws.{HiddenAsNone, LinksToHiddenAsToNone};
+ghost use Rattle.doc_hub.specs.HiddenLaws.{HiddenAsNone, HiddenMediumAsNone, LinksToHiddenAsToNone, LinksToHiddenMediaAsToNone};
 ghost use Rattle.doc_hub.specs.MadeLaws.{FreshIsMade, MadeReplies};
+ghost use Rattle.doc_hub.specs.MediaLaws.{MediaStandApart};
 ghost use Rattle.doc_hub.specs.RunLaws.{RunsAlike};
 ghost use Rattle.doc_hub.specs.StepEdits.{StepsChange};
 ghost use Rattle.doc_hub.specs.StepLaws.{AnswersAlike, StepsAlike};
 
 /// A request has one answer, with one edit, in two worlds with the same settings, the same who asks (nobody,
-/// a guest, or a reader of one entry), and one view for them; and, where it is a PUT of an owner, a put taken
-/// in both or in neither. Nothing else of the worlds matters.
+/// a guest, or a reader of one entry), and one view and the same media for them; and, where it is a PUT of an
+/// owner, a put taken in both or in neither. Nothing else of the worlds matters.
 #[tactic(auto, using(crate::proofs::StepLaws::answers_alike))]
 pub fn answers_are_noninterfering()
     ensures { AnswersAlike }
@@ -29,6 +30,13 @@ pub fn a_hidden_page_is_answered_as_none()
     ensures { HiddenAsNone }
 {}
 
+/// A hidden medium is answered exactly as a medium that doesn't exist, as a hidden page is: with the same
+/// bytes and the same edit.
+#[tactic(auto, using(crate::proofs::HiddenLaws::hidden_medium_as_none))]
+pub fn a_hidden_medium_is_answered_as_none()
+    ensures { HiddenMediumAsNone }
+{}
+
 /// A link to a hidden page is shown like a link to none: each link, and each page with its links, is shown
 /// to a reader who doesn't see the hidden page as it is where that was removed.
 #[tactic(auto, using(crate::proofs::HiddenLaws::links_to_hidden_as_to_none))]
@@ -36,17 +44,23 @@ pub fn a_link_to_a_hidden_page_is_shown_as_one_to_none()
     ensures { LinksToHiddenAsToNone }
 {}
 
+/// A link to a hidden medium is shown like a link to none, too, and so is each page with its links.
+#[tactic(auto, using(crate::proofs::HiddenLaws::links_to_hidden_media_as_to_none))]
+pub fn a_link_to_a_hidden_medium_is_shown_as_one_to_none()
+    ensures { LinksToHiddenMediaAsToNone }
+{}
+
 /// Step noninterference. Two steps send equal bytes and do the same where their connections are open,
 /// their unread bytes begin with the same thing, both are answered (memory sufficed for both), and,
-/// where that is a request, the worlds have the same settings, the same who asks, and one view for them;
-/// and, where it is a PUT of an owner, a put taken in both or in neither.
+/// where that is a request, the worlds have the same settings, the same who asks, and one view and the
+/// same media for them; and, where it is a PUT of an owner, a put taken in both or in neither.
 pub fn steps_are_noninterfering()
     ensures { StepsAlike }
 {}
 
 /// In any run, from any world, what a step of an open connection answers is what the step of a fresh
 /// server answers, and nothing else but where memory runs out there: one with the same settings that holds
-/// only what the request's reader may see at that step, and that reader's entry, where a token names it.
+/// only what the request's reader may see at that step, of the pages and of the media, and that reader's entry, where a token names it.
 /// Two premises: the connection stands and is open, and puts are taken and one is left at that step, where the
 /// request is a PUT of an owner. A step that answered that memory ran out sent nothing, and nothing is said of it.
 pub fn replies_are_a_fresh_servers()
@@ -63,7 +77,7 @@ pub fn replies_of_a_new_hub_are_a_fresh_servers()
 /// moves, as many as the site has pages and aliases, then one connection and the push of its unread
 /// bytes leave it, and a put is left. The premises: each alias of the site leads to a page and is the
 /// path of none, at most 10,000 pages and as many aliases stand, no text has more than 1,048,576 bytes,
-/// and at most 4,194,304 bytes are unread.
+/// at most 4,194,304 bytes are unread, and no medium has the path of a page or of an alias.
 #[tactic(auto, using(crate::proofs::MadeLaws::fresh_is_made))]
 pub fn a_hub_can_be_a_fresh_server()
     ensures { FreshIsMade }
@@ -71,7 +85,7 @@ pub fn a_hub_can_be_a_fresh_server()
 
 /// Noninterference by hubs alone. In a run of fewer than 2^64 - 1 events from a new hub, what a step of
 /// an open connection answers to a request is what a hub answers that was new with that request's reader
-/// alone (or none), in which the pages of the view were put, its aliases made by moves, one connection
+/// alone (or none) and with the media that they see, in which the pages of the view were put, its aliases made by moves, one connection
 /// made and its unread bytes pushed, and nothing else was done. The premises beside the open connection: the
 /// length of the run, and that puts are taken at that step, where the request is a PUT of an owner.
 pub fn replies_are_those_of_a_hub_of_the_view()
@@ -104,6 +118,13 @@ pub fn puts_are_taken_as_they_were()
 #[tactic(auto, using(crate::proofs::FreshLaws::puts_are_left))]
 pub fn short_runs_leave_a_put()
     ensures { PutsAreLeft }
+{}
+
+/// No event changes the media; and no path is both a medium's and a page's or an alias, after any run from a
+/// new hub, and after any run from a world where it is so.
+#[tactic(auto, using(crate::proofs::MediaLaws::media_stand_apart))]
+pub fn media_and_pages_stay_apart()
+    ensures { MediaStandApart }
 {}
 
 /// How bytes are cut does not matter: where two pushes on a connection are accepted, one after the

@@ -14,6 +14,7 @@ use Rattle.doc_http_targets.specs.Targets.{Route, route_of}
 use Rattle.doc_http_targets.specs.Targets as routes
 use Rattle.doc_http_targets.specs.WrittenPaths.{path_written}
 use Rattle.doc_hub_answers.specs.Edits.{CanBeMade, puts_taken}
+use Rattle.doc_media.specs.Media.{Beside}
 use Rattle.doc_hub_answers.specs.Replies.{Renders, Response, at_route, delete_at, edit_at, edit_page, edited, has_room, method_of}
 use Rattle.doc_hub_answers.specs.Replies.{on_route, only_reply, put_at, put_by, put_page, reads, refused, reply_at, response_to}
 use Rattle.doc_hub_answers.specs.declared.method.Method.{Method}
@@ -57,7 +58,8 @@ module _ (takes : Bool) (store : StoreState) (reader : Reader) where
   -- ---- what any reader asks for
 
   put_if : (rest : List ℕ) (request : Request) (owner : Bool) → reader.owner ≡ owner
-      → Can request.body (if owner then put_by (view_of store.site (Some reader)) (puts_taken takes store.puts) rest request else refused 403)
+      → Can request.body (if owner then put_by (view_of store.site (Some reader))
+      (puts_taken takes store.puts) rest request else refused 403)
   put_if rest request true owns = put_can (path_written rest) (groups_of (parameter request.target (codes "groups"))) request.body owns
   put_if rest request false owns = tt
 
@@ -88,19 +90,20 @@ module _ (takes : Bool) (store : StoreState) (reader : Reader) where
   if_reads reply edit text true can = tt
   if_reads reply edit text false can = can
 
-  at_can : (render : Renders) (route : Route) (request : Request) (method : Method)
-      → Can request.body (at_route render (view_of store.site (Some reader)) reader.owner (puts_taken takes store.puts) route request method)
-  at_can render route request method =
-      if_reads (reply_at render (view_of store.site (Some reader)) route request) _ request.body (reads method)
+  at_can : (render : Renders) (media : Beside) (route : Route) (request : Request) (method : Method)
+      → Can request.body (at_route render (view_of store.site (Some reader)) media reader.owner
+      (puts_taken takes store.puts) route request method)
+  at_can render media route request method =
+      if_reads (reply_at render (view_of store.site (Some reader)) media route request) _ request.body (reads method)
       (edit_can route request method)
 
-  route_can : (render : Renders) (route : Option Route) (request : Request)
-      → Can request.body (on_route render (view_of store.site (Some reader)) reader.owner (puts_taken takes store.puts) route request)
-  route_can render None request = tt
-  route_can render (Some route) request = at_can render route request (method_of request.method)
+  route_can : (render : Renders) (media : Beside) (route : Option Route) (request : Request)
+      → Can request.body (on_route render (view_of store.site (Some reader)) media reader.owner (puts_taken takes store.puts) route request)
+  route_can render media None request = tt
+  route_can render media (Some route) request = at_can render media route request (method_of request.method)
 
 -- the edit that goes with a response can be made
-pub response_can : (takes : Bool) (render : Renders) (store : StoreState) (reader : Option Reader) (request : Request)
-    → CanBeMade store request.body (response_to render (view_of store.site reader) reader (puts_taken takes store.puts) request).edit
-response_can takes render store None request = tt
-response_can takes render store (Some reader) request = route_can takes store reader render (route_of request.target) request
+pub response_can : (takes : Bool) (render : Renders) (media : Beside) (store : StoreState) (reader : Option Reader) (request : Request)
+    → CanBeMade store request.body (response_to render (view_of store.site reader) media reader (puts_taken takes store.puts) request).edit
+response_can takes render media store None request = tt
+response_can takes render media store (Some reader) request = route_can takes store reader render media (route_of request.target) request

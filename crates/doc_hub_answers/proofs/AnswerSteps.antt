@@ -12,6 +12,7 @@ use Rattle.doc_http_targets.specs.declared.route.Route.TheVariants as found_rout
 use Rattle.doc_http_targets.specs.WrittenPaths.{path_written}
 use Rattle.doc_hub_answers.specs.AnswerSteps.{Answered, AnsweredSo, after_edit, sent_in}
 use Rattle.doc_hub_answers.specs.Edits.{store_after}
+use Rattle.doc_media.specs.Media.{Beside}
 use Rattle.doc_hub_answers.specs.Replies.{Renders, Response, at_route, delete_at, edit_at, edit_page, edited, not_allowed}
 use Rattle.doc_hub_answers.specs.Replies.{only_reply, put_by, reads, refused, reply_at}
 use Rattle.doc_hub_answers.specs.declared.answer.Answer.{Answer}
@@ -54,23 +55,24 @@ module _ (view : View) (owner left : Bool) (rest : List ℕ) (request : Request)
 
 -- ---- the response at a route
 
-module _ (exchange : Exchange) (old new : StoreState) (render : Renders) (view : View) (owner left : Bool) (route : Route)
+module _ (exchange : Exchange) (old new : StoreState) (render : Renders) (view : View) (media : Beside) (owner left : Bool) (route : Route)
     (result : Result Answer Memory) where
   -- by a method that reads
   pub read_so : reads exchange.method ≡ true
-      → IfOk result (λ a. a ≡ sent_in exchange (only_reply (reply_at render view route exchange.request.now))) → new ≡ old
-      → Answered exchange old (at_route render view owner left route exchange.request.now exchange.method) new result
+      → IfOk result (λ a. a ≡ sent_in exchange (only_reply (reply_at render view media route exchange.request.now))) → new ≡ old
+      → Answered exchange old (at_route render view media owner left route exchange.request.now exchange.method) new result
   read_so is told stays =
-      sent_alone exchange old new exchange.request.now.body (only_reply (reply_at render view route exchange.request.now)) _ result told
-      (sym (ap (λ b. if b then only_reply (reply_at render view route exchange.request.now)
+      sent_alone exchange old new exchange.request.now.body (only_reply
+      (reply_at render view media route exchange.request.now)) _ result told
+      (sym (ap (λ b. if b then only_reply (reply_at render view media route exchange.request.now)
       else edit_at view owner left route exchange.request.now exchange.method) is)) refl stays
 
   -- or by another
   pub edited_so : reads exchange.method ≡ false
       → Answered exchange old (edit_at view owner left route exchange.request.now exchange.method) new result
-      → Answered exchange old (at_route render view owner left route exchange.request.now exchange.method) new result
+      → Answered exchange old (at_route render view media owner left route exchange.request.now exchange.method) new result
   edited_so is answered =
-      subst (λ b. Answered exchange old (if b then only_reply (reply_at render view route exchange.request.now)
+      subst (λ b. Answered exchange old (if b then only_reply (reply_at render view media route exchange.request.now)
       else edit_at view owner left route exchange.request.now exchange.method) new result) (sym is) answered
 
 -- another method at a route that is no page

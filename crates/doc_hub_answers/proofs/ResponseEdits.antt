@@ -14,6 +14,7 @@ use Rattle.doc_store_readers.specs.declared.groups.GroupsError.{GroupsError}
 use Rattle.doc_store_readers.specs.declared.reader.Reader.{Reader}
 use Rattle.doc_hub_answers.specs.Counts.{moves_of}
 use Rattle.doc_hub_answers.specs.Replies.{Renders, Response, delete_at, edit_at, edit_page, edited, has_room, method_of}
+use Rattle.doc_media.specs.Media.{Beside}
 use Rattle.doc_hub_answers.specs.Replies.{on_route, only_reply, put_at, put_by, put_page, reads, refused, reply_at, response_to}
 use Rattle.doc_hub_answers.specs.declared.edit.Edit.{Edit}
 use Rattle.doc_hub_answers.specs.declared.edit.Edit.TheVariants as edits
@@ -85,17 +86,19 @@ module _ (view : View) (owner left : Bool) where
   if_reads reply response true does = tt
   if_reads reply response false does = does
 
-  route_does : (render : Renders) (route : Option Route) (request : Request) → Does (on_route render view owner left route request)
-  route_does render None request = tt
-  route_does render (Some route) request =
-      if_reads (reply_at render view route request) _ (reads (method_of request.method))
+  route_does : (render : Renders) (media : Beside) (route : Option Route) (request : Request)
+      → Does (on_route render view media owner left route request)
+  route_does render media None request = tt
+  route_does render media (Some route) request =
+      if_reads (reply_at render view media route request) _ (reads (method_of request.method))
       (edit_does route request (method_of request.method))
 
-pub responses_put_or_remove : (render : Renders) (view : View) (reader : Option Reader) (puts_left : Bool) (request : Request)
-    → PutsOrRemoves (response_to render view reader puts_left request).edit
-responses_put_or_remove render view None puts_left request = tt
-responses_put_or_remove render view (Some reader) puts_left request =
-    route_does view reader.owner puts_left render (route_of request.target) request
+pub responses_put_or_remove : (render : Renders) (view : View) (media : Beside) (reader : Option Reader) (puts_left : Bool)
+    (request : Request)
+    → PutsOrRemoves (response_to render view media reader puts_left request).edit
+responses_put_or_remove render view media None puts_left request = tt
+responses_put_or_remove render view media (Some reader) puts_left request =
+    route_does view reader.owner puts_left render media (route_of request.target) request
 
 no_move : (edit : Option Edit) → PutsOrRemoves edit → moves_of edit ≡ 0
 no_move None does = refl
@@ -105,7 +108,9 @@ no_move (Some (edits.Move from to)) does = absurd does
 no_move (Some (edits.Remove path)) does = refl
 
 -- so no response is counted as a move
-pub responses_neither_move_nor_regroup : (render : Renders) (view : View) (reader : Option Reader) (puts_left : Bool) (request : Request)
-    → moves_of (response_to render view reader puts_left request).edit ≡ 0
-responses_neither_move_nor_regroup render view reader puts_left request =
-    no_move (response_to render view reader puts_left request).edit (responses_put_or_remove render view reader puts_left request)
+pub responses_neither_move_nor_regroup : (render : Renders) (view : View) (media : Beside) (reader : Option Reader) (puts_left : Bool)
+    (request : Request)
+    → moves_of (response_to render view media reader puts_left request).edit ≡ 0
+responses_neither_move_nor_regroup render view media reader puts_left request =
+    no_move (response_to render view media reader puts_left request).edit
+    (responses_put_or_remove render view media reader puts_left request)

@@ -1,5 +1,5 @@
--- The reply to a request that isn't one for people. It is a function of the reader's view, the reader's entry, the request, and whether
--- a put is left, and never of the whole site: that is what makes noninterference true.
+-- The reply to a request that isn't one for people. It is a function of the reader's view, of the media that the reader sees, of the
+-- reader's entry, the request, and whether a put is left, and never of the whole site: that is what makes noninterference true.
 use Rattle.std.specs.Prelude.{ℕ, List, [], ◌++◌, Bool, true, false, ◌||◌, ◌&&◌, bytes_eq, codes, is_some, length, nat_lt, nat_le}
 use Rattle.std.specs.Prelude.{Option, Some, None, Result, Ok, Err, if◌then◌else◌}
 use Rattle.std.specs.Str.{is_utf8}
@@ -13,7 +13,8 @@ use Rattle.doc_store_readers.specs.declared.groups.GroupsError.{GroupsError}
 use Rattle.doc_store_readers.specs.declared.reader.Reader.{Reader}
 use Rattle.doc_store_readers.specs.Sites.{View, page_at, goal_in}
 use Rattle.doc_page_encoding.specs.Encoding.{encoded_path}
-use Rattle.doc_resolve.specs.Hrefs.{shown}
+use Rattle.doc_media.specs.Media.{Beside}
+use Rattle.doc_media_links.specs.MediaLinks.{shown_beside}
 use Rattle.doc_http_replies.specs.declared.reply.Allow.{Allow}
 use Rattle.doc_http_replies.specs.declared.reply.Allow.TheVariants as resources
 use Rattle.doc_http_replies.specs.declared.reply.Reply.{Reply}
@@ -69,8 +70,8 @@ abbrev pub moved_reply : List ℕ → List ℕ → Reply
 moved_reply front goal = record (status_reply 301) { location = Some (front ++ encoded_path goal) }
 
 -- how a link to a destination is shown in the page at this path: by what the reader sees, whatever else stands in the site
-abbrev pub link_shown : View → List ℕ → List ℕ → Shown
-link_shown view path dest = shown (goal_in view) path dest
+abbrev pub link_shown : View → Beside → List ℕ → List ℕ → Shown
+link_shown view media path dest = shown_beside (goal_in view) media path dest
 
 -- where nothing is seen at a path: where it leads, if anywhere
 abbrev pub goal_reply : List ℕ → Option (List ℕ) → Reply
@@ -78,14 +79,14 @@ goal_reply front (Some goal) = moved_reply front goal
 goal_reply front None = status_reply 404
 
 -- a page that the reader sees, or where an alias that they see leads, or nothing: what is hidden and what is absent are the same here
-abbrev pub page_or_goal : Renders → View → List ℕ → Option Page → Option (List ℕ) → Reply
-page_or_goal render view path (Some page) goal = html_reply (body_of path (link_shown view path) (render page.text))
-page_or_goal render view path None goal = goal_reply (codes "/page/") goal
+abbrev pub page_or_goal : Renders → View → Beside → List ℕ → Option Page → Option (List ℕ) → Reply
+page_or_goal render view media path (Some page) goal = html_reply (body_of path (link_shown view media path) (render page.text))
+page_or_goal render view media path None goal = goal_reply (codes "/page/") goal
 
 -- GET and HEAD of the path that the target writes, or of none
-abbrev pub at_path : Renders → View → Option (List ℕ) → Reply
-at_path render view None = status_reply 404
-at_path render view (Some path) = page_or_goal render view path (page_at view.pages path) (goal_in view path)
+abbrev pub at_path : Renders → View → Beside → Option (List ℕ) → Reply
+at_path render view media None = status_reply 404
+at_path render view media (Some path) = page_or_goal render view media path (page_at view.pages path) (goal_in view path)
 
 -- ---- lists, which are read alone
 
@@ -160,12 +161,12 @@ edit_page view owner puts_left rest request _ = only_reply (not_allowed resource
 -- ---- what a route leads to
 
 -- GET and HEAD
-abbrev pub reply_at : Renders → View → Route → Request → Reply
-reply_at render view (routes.Page rest) request = at_path render view (path_written rest)
-reply_at render view (routes.Backlinks rest) request = backlinks_at render view (path_written rest)
-reply_at render view routes.Contents request = html_reply (contents_body render view)
-reply_at render view routes.Search request = search_at render view request.target
-reply_at render view routes.Broken request = text_reply (report_body render view)
+abbrev pub reply_at : Renders → View → Beside → Route → Request → Reply
+reply_at render view media (routes.Page rest) request = at_path render view media (path_written rest)
+reply_at render view media (routes.Backlinks rest) request = backlinks_at render view (path_written rest)
+reply_at render view media routes.Contents request = html_reply (contents_body render view)
+reply_at render view media routes.Search request = search_at render view request.target
+reply_at render view media routes.Broken request = text_reply (report_body render view media)
 
 -- the other methods; lists are read alone, by owners too
 abbrev pub edit_at : View → Bool → Bool → Route → Request → Method → Response
@@ -181,20 +182,21 @@ reads Get = true
 reads Head = true
 reads _ = false
 
-abbrev pub at_route : Renders → View → Bool → Bool → Route → Request → Method → Response
-at_route render view owner puts_left route request method =
-    if reads method then only_reply (reply_at render view route request) else edit_at view owner puts_left route request method
+abbrev pub at_route : Renders → View → Beside → Bool → Bool → Route → Request → Method → Response
+at_route render view media owner puts_left route request method =
+    if reads method then only_reply (reply_at render view media route request) else edit_at view owner puts_left route request method
 
 -- the route, then the method
-abbrev pub on_route : Renders → View → Bool → Bool → Option Route → Request → Response
-on_route render view owner puts_left None request = refused 404
-on_route render view owner puts_left (Some route) request =
-    at_route render view owner puts_left route request (method_of request.method)
+abbrev pub on_route : Renders → View → Beside → Bool → Bool → Option Route → Request → Response
+on_route render view media owner puts_left None request = refused 404
+on_route render view media owner puts_left (Some route) request =
+    at_route render view media owner puts_left route request (method_of request.method)
 
 -- the reader first: no entry gets nothing, whatever is asked
-abbrev pub response_to : Renders → View → Option Reader → Bool → Request → Response
-response_to render view None puts_left request = refused 401
-response_to render view (Some reader) puts_left request = on_route render view reader.owner puts_left (route_of request.target) request
+abbrev pub response_to : Renders → View → Beside → Option Reader → Bool → Request → Response
+response_to render view media None puts_left request = refused 401
+response_to render view media (Some reader) puts_left request =
+    on_route render view media reader.owner puts_left (route_of request.target) request
 
 -- A response as it is sent: its bytes, with what its head has beside, whether the connection closes after them, and the edit that is made.
 abbrev pub plain_answer : Dress → Response → Bool → Request → Answer

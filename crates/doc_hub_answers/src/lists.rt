@@ -2,6 +2,7 @@
 
 ghost use Rattle.std.specs.Prelude.{◌≡◌, IfOk, Some, codes};
 ghost use Rattle.std.specs.Result.{result_ok};
+ghost use Rattle.doc_media.specs.Media.{beside_of};
 ghost use Rattle.doc_http_targets.specs.Queries.{parameter};
 ghost use Rattle.doc_http_targets.specs.WrittenPaths.{path_written};
 ghost use Rattle.doc_hub_answers.specs.AnswerSteps.{sent_in};
@@ -19,6 +20,7 @@ use doc_http_replies::pieces::Pieces;
 use doc_http_targets::query::parameter;
 use doc_http_targets::written_path::written_path;
 use doc_listings::{CONTENTS_END, CONTENTS_FRONT};
+use doc_media::media::Media;
 use doc_page::renderer::Renderer;
 use doc_page_parts::failure::Memory;
 use doc_page_parts::heap::Heap;
@@ -112,14 +114,16 @@ fn words_asked(heap: Heap, request: &Request) -> Result<Option<List<Word>>, Memo
     }
 }
 
-/// The broken links of the pages that the reader sees.
+/// The broken links of the pages that the reader sees, beside the media that they see.
 pub fn broken_answer<R: Renderer + Drop>(
     exchange: &Exchange,
     shelf: &Shelf<R>,
     reader: &Reader,
+    media: &Option<Media>,
 ) -> Result<Answer, Memory>
     ensures { IfOk result (λ a. a ≡ sent_in exchange.now (only_reply (text_reply (report_body
-        (R.page shelf.now.0) (view_of shelf.now.1.site (Some reader.now)))))) }
+        (R.page shelf.now.0) (view_of shelf.now.1.site (Some reader.now))
+        (beside_of media.now (Some reader.now)))))) }
 {
-    exchange.content(false, &shelf.report(reader)?)
+    exchange.content(false, &shelf.report(reader, media)?)
 }

@@ -1,6 +1,7 @@
 //! What a reader gets where a route leads: to GET and HEAD, and to the methods that edit.
 
 ghost use Rattle.std.specs.Prelude.{◌≡◌, IfOk, OnOk, Some};
+ghost use Rattle.doc_media.specs.Media.{beside_of};
 ghost use Rattle.doc_store_readers.specs.Sites.{view_of};
 ghost use Rattle.doc_hub_answers.specs.AnswerSteps.{Answered, sent_in};
 ghost use Rattle.doc_hub_answers.specs.Counts.{RendersPuts};
@@ -18,6 +19,7 @@ use doc_http::reply::Allow;
 use doc_http::reply_form::ReplyForm;
 use doc_http::status::Status;
 use doc_http_targets::route::Route;
+use doc_media::media::Media;
 use doc_page::renderer::Renderer;
 use doc_page_parts::failure::Memory;
 use doc_shelf::Shelf;
@@ -28,10 +30,12 @@ pub fn at_route<R: Renderer + Drop>(
     exchange: &Exchange,
     shelf: &mut Shelf<R>,
     reader: &Reader,
+    media: &Option<Media>,
     route: Route<'_>,
 ) -> Result<Answer, Memory>
     ensures answer { Answered exchange.now shelf.old.1
         (at_route (R.page shelf.old.0) (view_of shelf.old.1.site (Some reader.now))
+        (beside_of media.now (Some reader.now))
         reader.now.owner (puts_taken exchange.now.takes_puts shelf.old.1.puts)
         (route_shown route.entry) exchange.now.request.now exchange.now.method)
         shelf.new.1 result }
@@ -40,7 +44,7 @@ pub fn at_route<R: Renderer + Drop>(
         (R.count shelf.new.0) shelf.new.1.puts 0 0) }
 {
     if exchange.method.reads() {
-        read_at(exchange, shelf, reader, route)
+        read_at(exchange, shelf, reader, media, route)
     } else {
         edit_at(exchange, shelf, reader, route)
     }
@@ -51,19 +55,21 @@ fn read_at<R: Renderer + Drop>(
     exchange: &Exchange,
     shelf: &mut Shelf<R>,
     reader: &Reader,
+    media: &Option<Media>,
     route: Route<'_>,
 ) -> Result<Answer, Memory>
     ensures answer { IfOk result (λ a. a ≡ sent_in exchange.now (only_reply (reply_at
         (R.page shelf.old.0) (view_of shelf.old.1.site (Some reader.now))
+        (beside_of media.now (Some reader.now))
         (route_shown route.entry) exchange.now.request.now))) }
     ensures same { shelf.new ≡ shelf.old }
 {
     match route {
-        Route::Page(rest) => answer_at(exchange, shelf, reader, rest),
+        Route::Page(rest) => answer_at(exchange, shelf, reader, media, rest),
         Route::Backlinks(rest) => backlinks_answer(exchange, shelf, reader, rest),
         Route::Contents => contents_answer(exchange, shelf, reader),
         Route::Search => search_answer(exchange, shelf, reader),
-        Route::Broken => broken_answer(exchange, shelf, reader),
+        Route::Broken => broken_answer(exchange, shelf, reader, media),
     }
 }
 

@@ -35,6 +35,7 @@ use Rattle.doc_hub_answers.specs.declared.edit.Edit.TheVariants as edits
 use Rattle.doc_hub_people.specs.PeopleAnswers.{offers_for}
 use Rattle.doc_hub_editing_refusals.specs.Asked.{EditRequest}
 use Rattle.doc_hub_editing_refusals.specs.Asked as requests
+use Rattle.doc_media.specs.Media.{Beside}
 use Rattle.doc_hub_editing.specs.EditAnswers.{begins_path, by_entry, by_other, by_owner, edit_response, folder_begun, forbidden, form_at}
 use Rattle.doc_hub_editing.specs.EditAnswers.{form_or_goal, groups_put, move_named, move_page, new_form, no_alias_room, no_room}
 use Rattle.doc_hub_editing.specs.EditAnswers.{not_found, page_of, preview_at, preview_of, put_at, put_done, put_page, read_source}
@@ -58,8 +59,8 @@ some_same x y h = cc
 
 pub nothing_without_the_setting : NothingIsEditedWithoutTheSetting
 unfolding edit_response
-nothing_without_the_setting render browse view asking left for_people request off =
-    ap (λ editing. response_if render browse view asking left for_people request
+nothing_without_the_setting render browse view media asking left for_people request off =
+    ap (λ editing. response_if render browse view media asking left for_people request
     (if editing then asked_by (edit_route_of request.target) (route_of request.target) (method_of request.method) else None)) off
 
 -- ---- what conditions that hold say
@@ -336,7 +337,7 @@ module _ (view : View) (request : Request) where
   abbrev Both : EditingResponse → Type 0
   Both response = Meets response.edit × Tells response
 
-  module _ (render : Renders) (browse : Browse) (offers : Offers) (for_people : Bool) where
+  module _ (media : Beside) (render : Renders) (browse : Browse) (offers : Offers) (for_people : Bool) where
     absent_both : (people : Bool) → Both (not_found render browse offers view people)
     absent_both true = (tt, tt)
     absent_both false = (tt, tt)
@@ -363,17 +364,17 @@ module _ (view : View) (request : Request) where
     form_both rest false = at_both (path_written rest)
 
     preview_by : (path : List ℕ) (markdown utf8 : Bool)
-        → Both (if not markdown then refused 415 else (if utf8 then only_reply (Shown (preview_of browse view path
+        → Both (if not markdown then refused 415 else (if utf8 then only_reply (Shown (preview_of browse view media path
         (render request.body))) else refused_for 400 (codes "the text is not UTF-8")))
     preview_by path false utf8 = (tt, tt)
     preview_by path true true = (tt, tt)
     preview_by path true false = (tt, no_tag)
 
-    preview_both : (path : Option (List ℕ)) → Both (preview_at render browse view path request)
+    preview_both : (path : Option (List ℕ)) → Both (preview_at render browse view media path request)
     preview_both None = (tt, tt)
     preview_both (Some path) = preview_by path request.markdown (is_utf8 request.body)
 
-    owner_both : (left : Bool) (what : EditRequest) → Both (by_owner render browse offers view left for_people request what)
+    owner_both : (left : Bool) (what : EditRequest) → Both (by_owner render browse offers view media left for_people request what)
     owner_both left (requests.ReadSource rest) = (read_meets (path_written rest), read_tells (path_written rest))
     owner_both left (requests.PutSource rest) = (put_meets left true (path_written rest), put_tells left true (path_written rest))
     owner_both left (requests.PutPage rest) = (put_meets left false (path_written rest), put_tells left false (path_written rest))
@@ -405,35 +406,37 @@ module _ (view : View) (request : Request) where
     other_both false what = forbidden_both for_people what
 
     entry_both_by : (guest left : Bool) (what : EditRequest) (owner : Bool)
-        → Both (if owner then by_owner render browse offers view left for_people request what
+        → Both (if owner then by_owner render browse offers view media left for_people request what
         else by_other render browse offers view guest for_people what)
     entry_both_by guest left what true = owner_both left what
     entry_both_by guest left what false = other_both guest what
 
-  entry_both : (render : Renders) (browse : Browse) (guest : Bool) (reader : Reader) (left for_people : Bool) (what : EditRequest)
-      → Both (by_entry render browse view guest reader left for_people request what)
-  entry_both render browse guest reader left for_people what =
-      entry_both_by render browse (offers_for browse guest reader.owner) for_people guest left what reader.owner
+  entry_both : (media : Beside) (render : Renders) (browse : Browse) (guest : Bool) (reader : Reader) (left for_people : Bool)
+      (what : EditRequest)
+      → Both (by_entry render browse view media guest reader left for_people request what)
+  entry_both media render browse guest reader left for_people what =
+      entry_both_by media render browse (offers_for browse guest reader.owner) for_people guest left what reader.owner
 
 -- ---- the laws
 
 -- each edit meets the conditions of its request
-pub edits_meet_conditions : (render : Renders) (browse : Browse) (view : View) (guest : Bool) (reader : Reader) (left for_people : Bool)
+pub edits_meet_conditions : (render : Renders) (browse : Browse) (view : View) (media : Beside) (guest : Bool) (reader : Reader)
+    (left for_people : Bool)
     (request : Request) (what : EditRequest) (edit : Edit)
-    → (by_entry render browse view guest reader left for_people request what).edit ≡ Some edit
+    → (by_entry render browse view media guest reader left for_people request what).edit ≡ Some edit
     → unmet_by false request (page_at view.pages (path_of_edit edit)) ≡ None
-edits_meet_conditions render browse view guest reader left for_people request what edit is =
-    subst (Meets view request) is (entry_both view request render browse guest reader left for_people what).0
+edits_meet_conditions render browse view media guest reader left for_people request what edit is =
+    subst (Meets view request) is (entry_both view request media render browse guest reader left for_people what).0
 
 pub edits_are_of_what_was_named : EditsAreOfWhatWasNamed
-edits_are_of_what_was_named render browse view guest reader left for_people request what edit value tags is =
+edits_are_of_what_was_named render browse view media guest reader left for_people request what edit value tags is =
     named_stands request (page_at view.pages (path_of_edit edit))
-    (edits_meet_conditions render browse view guest reader left for_people request what edit is) value tags
+    (edits_meet_conditions render browse view media guest reader left for_people request what edit is) value tags
 
 pub nothing_is_replaced_unasked : NothingIsReplacedUnasked
-nothing_is_replaced_unasked render browse view guest reader left for_people request what edit value is =
+nothing_is_replaced_unasked render browse view media guest reader left for_people request what edit value is =
     none_stands request (page_at view.pages (path_of_edit edit))
-    (edits_meet_conditions render browse view guest reader left for_people request what edit is) value
+    (edits_meet_conditions render browse view media guest reader left for_people request what edit is) value
 
 -- a page that has none of the tags is not one that has
 another_is_named : (tags : List EntityTag) (page other : Page) → Some other ≡ Some page → has_tag Strong (tag_of page) tags ≡ false
@@ -443,14 +446,15 @@ another_is_named tags page other same lacks has =
     (ap (λ p. has_tag Strong (tag_of p) tags) (sym (some_same other page same)) ∙ has)
 
 pub who_names_another_is_refused : WhoNamesAnotherIsRefused
-who_names_another_is_refused render browse view guest reader left for_people request what edit value tags page sent reads stands lacks is =
-    let it = edits_are_of_what_was_named render browse view guest reader left for_people request what edit value tags is sent reads in
+who_names_another_is_refused render browse view media guest reader left for_people request what edit value tags page sent reads stands
+    lacks is =
+    let it = edits_are_of_what_was_named render browse view media guest reader left for_people request what edit value tags is sent reads in
     another_is_named tags page it.0 (sym it.1 ∙ stands) lacks it.2
 
 pub told_tags_are_the_pages : ToldTagsAreThePages
-told_tags_are_the_pages render browse view guest reader left for_people request what told tag is =
-    subst (λ reply. TellsTags view request reply (by_entry render browse view guest reader left for_people request what).edit) is
-    (entry_both view request render browse guest reader left for_people what).1 tag
+told_tags_are_the_pages render browse view media guest reader left for_people request what told tag is =
+    subst (λ reply. TellsTags view request reply (by_entry render browse view media guest reader left for_people request what).edit) is
+    (entry_both view request media render browse guest reader left for_people what).1 tag
 
 -- ---- owners alone
 
@@ -478,24 +482,25 @@ other_guests render other browse offers view another for_people (requests.NotAll
 other_guests render other browse offers view another for_people what = refl
 
 -- who is no owner is answered as others are
-as_other : (render : Renders) (browse : Browse) (view : View) (guest : Bool) (reader : Reader) (left for_people : Bool) (request : Request)
+as_other : (render : Renders) (browse : Browse) (view : View) (media : Beside) (guest : Bool) (reader : Reader) (left for_people : Bool)
+    (request : Request)
     (what : EditRequest) → reader.owner ≡ false
-    → by_entry render browse view guest reader left for_people request what
+    → by_entry render browse view media guest reader left for_people request what
     ≡ by_other render browse (offers_for browse guest reader.owner) view guest for_people what
-as_other render browse view guest reader left for_people request what is =
-    ap (λ owner. if owner then by_owner render browse (offers_for browse guest reader.owner) view left for_people request what
+as_other render browse view media guest reader left for_people request what is =
+    ap (λ owner. if owner then by_owner render browse (offers_for browse guest reader.owner) view media left for_people request what
     else by_other render browse (offers_for browse guest reader.owner) view guest for_people what) is
 
 pub owners_alone : OwnersAlone
 owners_alone = record {
-  edit_nothing = λ render browse view guest reader left for_people request what is.
-      ap (λ r. r.edit) (as_other render browse view guest reader left for_people request what is)
+  edit_nothing = λ render browse view media guest reader left for_people request what is.
+      ap (λ r. r.edit) (as_other render browse view media guest reader left for_people request what is)
       ∙ other_edits_nothing render browse (offers_for browse guest reader.owner) view guest for_people what;
-  plainly = λ render browse view guest reader left request what is.
-      as_other render browse view guest reader left false request what is
+  plainly = λ render browse view media guest reader left request what is.
+      as_other render browse view media guest reader left false request what is
       ∙ other_plainly render browse (offers_for browse guest reader.owner) view guest what;
-  guests = λ render other browse view another reader left still_left for_people request elsewhere what is.
-      as_other render browse view true reader left for_people request what is
+  guests = λ render other browse view another media others reader left still_left for_people request elsewhere what is.
+      as_other render browse view media true reader left for_people request what is
       ∙ other_guests render other browse (offers_for browse true reader.owner) view another for_people what
-      ∙ sym (as_other other browse another true reader still_left for_people elsewhere what is);
+      ∙ sym (as_other other browse another others true reader still_left for_people elsewhere what is);
 }

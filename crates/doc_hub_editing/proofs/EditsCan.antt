@@ -31,6 +31,7 @@ use Rattle.doc_hub_asking.specs.Asking as asked
 use Rattle.doc_hub_people.specs.PeopleAnswers.{offers_for}
 use Rattle.doc_hub_editing_refusals.specs.Asked.{EditRequest}
 use Rattle.doc_hub_editing_refusals.specs.Asked as requests
+use Rattle.doc_media.specs.Media.{Beside}
 use Rattle.doc_hub_editing.specs.EditAnswers.{aliases_after_move, begins_path, by_entry, by_other, by_owner, edit_response, folder_begun}
 use Rattle.doc_hub_editing.specs.EditAnswers.{forbidden, form_at, groups_put, move_named, move_page, new_form, no_alias_room, no_room}
 use Rattle.doc_hub_editing.specs.EditAnswers.{not_found, page_of, preview_at, preview_of, put_at, put_done, put_page, read_source}
@@ -85,7 +86,8 @@ module _ (takes : Bool) (store : StoreState) (reader : Reader) (owns : reader.ow
   -- where nothing stands against a text, it fits
   pub text_fits : (path text : List ℕ) → no_room view left (page_at view.pages path) text ≡ None → fits_in store path text ≡ Ok tt
   text_fits path text none =
-      room_by takes (nat_lt text_limit (length text)) (map.contains_key store.site.pages path) (nat_le page_limit (map.len store.site.pages))
+      room_by takes (nat_lt text_limit (length text)) (map.contains_key store.site.pages path) (nat_le page_limit
+      (map.len store.site.pages))
       (nat_le put_limit store.puts) (codes "the text has more than 1048576 bytes") (codes "no edit is left") (codes "10000 pages stand")
       (sym (λ i.
       if nat_lt text_limit (length text) then Some (codes "the text has more than 1048576 bytes")
@@ -229,7 +231,7 @@ module _ (takes : Bool) (store : StoreState) (reader : Reader) (owns : reader.ow
 
   -- ---- what owners ask for
 
-  module _ (render : Renders) (browse : Browse) (offers : Offers) (for_people : Bool) where
+  module _ (media : Beside) (render : Renders) (browse : Browse) (offers : Offers) (for_people : Bool) where
     absent_can : (body : List ℕ) (people : Bool) → Can body (not_found render browse offers view people)
     absent_can body true = tt
     absent_can body false = tt
@@ -249,18 +251,18 @@ module _ (takes : Bool) (store : StoreState) (reader : Reader) (owns : reader.ow
     form_can body rest false = at_can body (path_written rest)
 
     preview_by : (path : List ℕ) (request : Request) (markdown utf8 : Bool)
-        → Can request.body (if not markdown then refused 415 else (if utf8 then only_reply (Shown (preview_of browse view path
+        → Can request.body (if not markdown then refused 415 else (if utf8 then only_reply (Shown (preview_of browse view media path
         (render request.body))) else refused_for 400 (codes "the text is not UTF-8")))
     preview_by path request false utf8 = tt
     preview_by path request true true = tt
     preview_by path request true false = tt
 
-    preview_can : (path : Option (List ℕ)) (request : Request) → Can request.body (preview_at render browse view path request)
+    preview_can : (path : Option (List ℕ)) (request : Request) → Can request.body (preview_at render browse view media path request)
     preview_can None request = tt
     preview_can (Some path) request = preview_by path request request.markdown (is_utf8 request.body)
 
     pub by_owner_can : (request : Request) (what : EditRequest)
-        → Can request.body (by_owner render browse offers view left for_people request what)
+        → Can request.body (by_owner render browse offers view media left for_people request what)
     by_owner_can request (requests.ReadSource rest) = read_can (path_written rest) request
     by_owner_can request (requests.PutSource rest) = put_can true (path_written rest) request
     by_owner_can request (requests.PutPage rest) = put_can false (path_written rest) request
@@ -292,35 +294,38 @@ module _ (render : Renders) (browse : Browse) (store : StoreState) (body : List 
   by_other_can offers seen true for_people what = unauthorized_can for_people
   by_other_can offers seen false for_people what = forbidden_can offers seen for_people what
 
-module _ (takes : Bool) (render : Renders) (browse : Browse) (store : StoreState) (for_people : Bool) (request : Request) where
+module _ (media : Beside) (takes : Bool) (render : Renders) (browse : Browse) (store : StoreState) (for_people : Bool)
+    (request : Request) where
   by_owner_or_other : (guest : Bool) (reader : Reader) (what : EditRequest) (owner : Bool) → reader.owner ≡ owner
       → CanBeMade store request.body (if owner
       then by_owner render browse (offers_for browse guest reader.owner) (view_of store.site (Some reader))
-      (puts_taken takes store.puts) for_people request what
+      media (puts_taken takes store.puts) for_people request what
       else by_other render browse (offers_for browse guest reader.owner) (view_of store.site (Some reader)) guest for_people what).edit
   by_owner_or_other guest reader what true owns =
-      by_owner_can takes store reader owns render browse (offers_for browse guest reader.owner) for_people request what
+      by_owner_can takes store reader owns media render browse (offers_for browse guest reader.owner) for_people request what
   by_owner_or_other guest reader what false owns =
       by_other_can render browse store request.body (offers_for browse guest reader.owner) (view_of store.site (Some reader)) guest
       for_people what
 
   pub by_entry_can : (guest : Bool) (reader : Reader) (what : EditRequest)
       → CanBeMade store request.body
-      (by_entry render browse (view_of store.site (Some reader)) guest reader (puts_taken takes store.puts) for_people request what).edit
+      (by_entry render browse (view_of store.site (Some reader)) media guest reader
+      (puts_taken takes store.puts) for_people request what).edit
   by_entry_can guest reader what = by_owner_or_other guest reader what reader.owner refl
 
   response_can : (asking : Asking) (what : Option EditRequest)
       → EditingCan store request.body
-      (response_if render browse (view_of store.site (row_of asking)) asking (puts_taken takes store.puts) for_people request what)
+      (response_if render browse (view_of store.site (row_of asking)) media asking (puts_taken takes store.puts) for_people request what)
   response_can asking None = tt
   response_can asked.Nobody (Some what) = tt
   response_can (asked.Guest row) (Some what) = by_entry_can true row what
   response_can (asked.Known row) (Some what) = by_entry_can false row what
 
-pub edit_response_can : (takes : Bool) (render : Renders) (browse : Browse) (store : StoreState) (asking : Asking) (for_people : Bool)
+pub edit_response_can : (media : Beside) (takes : Bool) (render : Renders) (browse : Browse) (store : StoreState) (asking : Asking)
+    (for_people : Bool)
     (request : Request)
     → EditingCan store request.body
-    (edit_response render browse (view_of store.site (row_of asking)) asking (puts_taken takes store.puts) for_people request)
+    (edit_response render browse (view_of store.site (row_of asking)) media asking (puts_taken takes store.puts) for_people request)
 unfolding edit_response
-edit_response_can takes render browse store asking for_people request =
-    response_can takes render browse store for_people request asking (edit_request_of browse request)
+edit_response_can media takes render browse store asking for_people request =
+    response_can media takes render browse store for_people request asking (edit_request_of browse request)

@@ -10,6 +10,7 @@ use Rattle.doc_store_readers.specs.Sites.{View}
 use Rattle.doc_hub_answers.specs.Counts.{previews_of}
 use Rattle.doc_hub_answers.specs.Replies.{Renders}
 use Rattle.doc_hub_answers.specs.declared.answer.Answer.{Answer}
+use Rattle.doc_media.specs.Media.{Beside}
 use Rattle.doc_hub_editing.specs.EditAnswers.{preview_of, preview_text}
 use Rattle.doc_hub_editing.specs.EditResponses.{Shown, only_reply, refused, refused_for}
 
@@ -27,14 +28,14 @@ told (Ok a) is = is
 told (Err e) is = tt
 
 -- what is answered to a text of the right type, or to what is none
-module _ (render : Renders) (browse : Browse) (view : View) (path : List ℕ) (request : Request) (utf8 : Bool)
+module _ (render : Renders) (browse : Browse) (view : View) (media : Beside) (path : List ℕ) (request : Request) (utf8 : Bool)
     (typed : request.markdown ≡ true) (is : is_utf8 request.body ≡ utf8) where
-  pub by_text : preview_text render browse view path request
-      ≡ (if utf8 then only_reply (Shown (preview_of browse view path (render request.body)))
+  pub by_text : preview_text render browse view media path request
+      ≡ (if utf8 then only_reply (Shown (preview_of browse view media path (render request.body)))
       else refused_for 400 (codes "the text is not UTF-8"))
   by_text = λ i.
       if not (typed i) then refused 415
-      else (if is i then only_reply (Shown (preview_of browse view path (render request.body)))
+      else (if is i then only_reply (Shown (preview_of browse view media path (render request.body)))
       else refused_for 400 (codes "the text is not UTF-8"))
 
   -- and how many previews are shown

@@ -21,7 +21,8 @@ use Rattle.doc_people_editing.specs.EditPage.{begin_body, edit_body}
 use Rattle.doc_people_editing.specs.NewPage.{new_body}
 use Rattle.doc_people_editing.specs.Policies.{edit_policy, preview_policy}
 use Rattle.doc_people_editing.specs.Preview.{preview_body}
-use Rattle.doc_resolve.specs.Hrefs.{shown}
+use Rattle.doc_media.specs.Media.{Beside}
+use Rattle.doc_media_links.specs.MediaLinks.{shown_beside}
 use Rattle.doc_store.specs.Store.{alias_limit, page_limit, text_limit}
 use Rattle.doc_store_readers.specs.Groups.{groups_of}
 use Rattle.doc_store_readers.specs.Pages.{Page}
@@ -236,42 +237,44 @@ open_form render browse offers view for_people rest =
 -- ---- previews
 
 -- what a text would look like at a path, with its links as the owner sees them
-abbrev pub preview_of : Browse → View → List ℕ → Rendered → PeopleReply
-preview_of browse view path page =
-    guarded_page preview_policy (preview_body browse path page.headings (filled (shown (goal_in view) path) page))
+abbrev pub preview_of : Browse → View → Beside → List ℕ → Rendered → PeopleReply
+preview_of browse view media path page =
+    guarded_page preview_policy (preview_body browse path page.headings (filled (shown_beside (goal_in view) media path) page))
 
 -- the type of the text is what keeps forms of other sites out: they can't send it
-abbrev pub preview_text : Renders → Browse → View → List ℕ → Request → EditingResponse
-preview_text render browse view path request =
+abbrev pub preview_text : Renders → Browse → View → Beside → List ℕ → Request → EditingResponse
+preview_text render browse view media path request =
     if not request.markdown then refused 415
-    else (if is_utf8 request.body then only_reply (Shown (preview_of browse view path (render request.body)))
+    else (if is_utf8 request.body then only_reply (Shown (preview_of browse view media path (render request.body)))
     else refused_for 400 (codes "the text is not UTF-8"))
 
-abbrev pub preview_at : Renders → Browse → View → Option (List ℕ) → Request → EditingResponse
-preview_at render browse view None request = refused 404
-preview_at render browse view (Some path) request = preview_text render browse view path request
+abbrev pub preview_at : Renders → Browse → View → Beside → Option (List ℕ) → Request → EditingResponse
+preview_at render browse view media None request = refused 404
+preview_at render browse view media (Some path) request = preview_text render browse view media path request
 
 -- ---- whom
 
 -- what an owner is answered; `for_people`: the request is one for people
-abbrev pub by_owner : Renders → Browse → Offers → View → Bool → Bool → Request → EditRequest → EditingResponse
-by_owner render browse offers view puts_left for_people request (requests.ReadSource rest) = read_source view (path_written rest) request
-by_owner render browse offers view puts_left for_people request (requests.PutSource rest) =
+abbrev pub by_owner : Renders → Browse → Offers → View → Beside → Bool → Bool → Request → EditRequest → EditingResponse
+by_owner render browse offers view media puts_left for_people request (requests.ReadSource rest) = read_source view
+    (path_written rest) request
+by_owner render browse offers view media puts_left for_people request (requests.PutSource rest) =
     put_at view puts_left true (path_written rest) request
-by_owner render browse offers view puts_left for_people request (requests.PutPage rest) =
+by_owner render browse offers view media puts_left for_people request (requests.PutPage rest) =
     put_at view puts_left false (path_written rest) request
-by_owner render browse offers view puts_left for_people request (requests.Remove rest) =
+by_owner render browse offers view media puts_left for_people request (requests.Remove rest) =
     remove_page (page_of view (path_written rest)) request
-by_owner render browse offers view puts_left for_people request (requests.Regroup rest) =
+by_owner render browse offers view media puts_left for_people request (requests.Regroup rest) =
     regroup_named view puts_left (page_of view (path_written rest))
     (option_map groups_of (optional_parameter request.target (codes "groups"))) request
-by_owner render browse offers view puts_left for_people request (requests.Move rest) =
+by_owner render browse offers view media puts_left for_people request (requests.Move rest) =
     move_named view puts_left (page_of view (path_written rest))
     (option_map path_of (optional_parameter request.target (codes "to"))) request
-by_owner render browse offers view puts_left for_people request (requests.Open rest) = open_form render browse offers view for_people rest
-by_owner render browse offers view puts_left for_people request (requests.Preview rest) =
-    preview_at render browse view (path_written rest) request
-by_owner render browse offers view puts_left for_people request (requests.NotAllowed resource) =
+by_owner render browse offers view media puts_left for_people request (requests.Open rest) = open_form render browse offers view
+    for_people rest
+by_owner render browse offers view media puts_left for_people request (requests.Preview rest) =
+    preview_at render browse view media (path_written rest) request
+by_owner render browse offers view media puts_left for_people request (requests.NotAllowed resource) =
     only_reply (Plain (not_allowed resource))
 
 -- a guest isn't forbidden anything: they haven't signed in; to people a page says so
@@ -290,28 +293,28 @@ by_other render browse offers view guest for_people (requests.NotAllowed resourc
 by_other render browse offers view true for_people asked = unauthorized browse for_people
 by_other render browse offers view false for_people asked = forbidden render browse offers view for_people asked
 
-abbrev pub by_entry : Renders → Browse → View → Bool → Reader → Bool → Bool → Request → EditRequest → EditingResponse
-by_entry render browse view guest reader puts_left for_people request asked =
-    if reader.owner then by_owner render browse (offers_for browse guest reader.owner) view puts_left for_people request asked
+abbrev pub by_entry : Renders → Browse → View → Beside → Bool → Reader → Bool → Bool → Request → EditRequest → EditingResponse
+by_entry render browse view media guest reader puts_left for_people request asked =
+    if reader.owner then by_owner render browse (offers_for browse guest reader.owner) view media puts_left for_people request asked
     else by_other render browse (offers_for browse guest reader.owner) view guest for_people asked
 
 -- what is asked is answered to whoever has an entry
-abbrev pub response_by : Renders → Browse → View → Asking → Bool → Bool → Request → EditRequest → Option EditingResponse
-response_by render browse view asked.Nobody puts_left for_people request what = None
-response_by render browse view (asked.Guest row) puts_left for_people request what =
-    Some (by_entry render browse view true row puts_left for_people request what)
-response_by render browse view (asked.Known row) puts_left for_people request what =
-    Some (by_entry render browse view false row puts_left for_people request what)
+abbrev pub response_by : Renders → Browse → View → Beside → Asking → Bool → Bool → Request → EditRequest → Option EditingResponse
+response_by render browse view media asked.Nobody puts_left for_people request what = None
+response_by render browse view media (asked.Guest row) puts_left for_people request what =
+    Some (by_entry render browse view media true row puts_left for_people request what)
+response_by render browse view media (asked.Known row) puts_left for_people request what =
+    Some (by_entry render browse view media false row puts_left for_people request what)
 
-abbrev pub response_if : Renders → Browse → View → Asking → Bool → Bool → Request → Option EditRequest → Option EditingResponse
-response_if render browse view asking puts_left for_people request None = None
-response_if render browse view asking puts_left for_people request (Some what) =
-    response_by render browse view asking puts_left for_people request what
+abbrev pub response_if : Renders → Browse → View → Beside → Asking → Bool → Bool → Request → Option EditRequest → Option EditingResponse
+response_if render browse view media asking puts_left for_people request None = None
+response_if render browse view media asking puts_left for_people request (Some what) =
+    response_by render browse view media asking puts_left for_people request what
 
 -- the response to a request that edits, where it is one and who asks has an entry
-unfoldable pub edit_response : Renders → Browse → View → Asking → Bool → Bool → Request → Option EditingResponse
-edit_response render browse view asking puts_left for_people request =
-    response_if render browse view asking puts_left for_people request (edit_request_of browse request)
+unfoldable pub edit_response : Renders → Browse → View → Beside → Asking → Bool → Bool → Request → Option EditingResponse
+edit_response render browse view media asking puts_left for_people request =
+    response_if render browse view media asking puts_left for_people request (edit_request_of browse request)
 
 -- ---- what is rendered
 

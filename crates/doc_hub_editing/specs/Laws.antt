@@ -19,14 +19,15 @@ use Rattle.doc_hub_answers.specs.declared.edit.Edit.TheVariants as edits
 use Rattle.doc_hub_asking.specs.Asking.{Asking}
 use Rattle.doc_hub_editing_refusals.specs.Asked.{EditRequest}
 use Rattle.doc_hub_editing_refusals.specs.Asked as requests
+use Rattle.doc_media.specs.Media.{Beside}
 use Rattle.doc_hub_editing.specs.EditAnswers.{by_entry, edit_response}
 use Rattle.doc_hub_editing.specs.EditResponses.{Plain, Told, only_reply}
 
 -- where pages aren't edited so, no request is one that edits
 abbrev pub NothingIsEditedWithoutTheSetting : Type 0
 NothingIsEditedWithoutTheSetting =
-    (render : Renders) (browse : Browse) (view : View) (asking : Asking) (puts_left for_people : Bool) (request : Request)
-    → browse.editing ≡ false → edit_response render browse view asking puts_left for_people request ≡ None
+    (render : Renders) (browse : Browse) (view : View) (media : Beside) (asking : Asking) (puts_left for_people : Bool) (request : Request)
+    → browse.editing ≡ false → edit_response render browse view media asking puts_left for_people request ≡ None
 
 -- ---- owners alone
 
@@ -38,18 +39,20 @@ refusal_of guest what = status_reply (if guest then 401 else 403)
 -- One who is no owner edits nothing. In plain text they are answered by the route and the method alone; as people, guests are
 -- answered alike whatever there is to be seen, and readers by their own view.
 pub record OwnersAlone : Type 0 where
-  pub edit_nothing : (render : Renders) (browse : Browse) (view : View) (guest : Bool) (reader : Reader) (puts_left for_people : Bool)
+  pub edit_nothing : (render : Renders) (browse : Browse) (view : View) (media : Beside) (guest : Bool) (reader : Reader)
+      (puts_left for_people : Bool)
       (request : Request) (what : EditRequest)
-      → reader.owner ≡ false → (by_entry render browse view guest reader puts_left for_people request what).edit ≡ None
-  pub plainly : (render : Renders) (browse : Browse) (view : View) (guest : Bool) (reader : Reader) (puts_left : Bool)
+      → reader.owner ≡ false → (by_entry render browse view media guest reader puts_left for_people request what).edit ≡ None
+  pub plainly : (render : Renders) (browse : Browse) (view : View) (media : Beside) (guest : Bool) (reader : Reader) (puts_left : Bool)
       (request : Request) (what : EditRequest)
       → reader.owner ≡ false
-      → by_entry render browse view guest reader puts_left false request what ≡ only_reply (Plain (refusal_of guest what))
-  pub guests : (render other : Renders) (browse : Browse) (view another : View) (reader : Reader) (puts_left still_left for_people : Bool)
+      → by_entry render browse view media guest reader puts_left false request what ≡ only_reply (Plain (refusal_of guest what))
+  pub guests : (render other : Renders) (browse : Browse) (view another : View) (media others : Beside) (reader : Reader)
+      (puts_left still_left for_people : Bool)
       (request elsewhere : Request) (what : EditRequest)
       → reader.owner ≡ false
-      → by_entry render browse view true reader puts_left for_people request what
-      ≡ by_entry other browse another true reader still_left for_people elsewhere what
+      → by_entry render browse view media true reader puts_left for_people request what
+      ≡ by_entry other browse another others true reader still_left for_people elsewhere what
 
 -- ---- no update is lost
 
@@ -63,9 +66,10 @@ path_of_edit (edits.Remove path) = path
 -- an edit whose request named tags by If-Match is of a page that stands and has one of them, strongly (RFC 9110, section 13.1.1)
 abbrev pub EditsAreOfWhatWasNamed : Type 0
 EditsAreOfWhatWasNamed =
-    (render : Renders) (browse : Browse) (view : View) (guest : Bool) (reader : Reader) (puts_left for_people : Bool) (request : Request)
+    (render : Renders) (browse : Browse) (view : View) (media : Beside) (guest : Bool) (reader : Reader) (puts_left for_people : Bool)
+    (request : Request)
     (what : EditRequest) (edit : Edit) (value : List ℕ) (tags : List EntityTag)
-    → (by_entry render browse view guest reader puts_left for_people request what).edit ≡ Some edit
+    → (by_entry render browse view media guest reader puts_left for_people request what).edit ≡ Some edit
     → request.if_match ≡ Some value → named_by value ≡ Some (OneOf tags)
     → (page : Page) × (page_at view.pages (path_of_edit edit) ≡ Some page) × (has_tag Strong (tag_of page) tags ≡ true)
 
@@ -73,18 +77,20 @@ EditsAreOfWhatWasNamed =
 -- tags of the page that stands makes no edit of it
 abbrev pub WhoNamesAnotherIsRefused : Type 0
 WhoNamesAnotherIsRefused =
-    (render : Renders) (browse : Browse) (view : View) (guest : Bool) (reader : Reader) (puts_left for_people : Bool) (request : Request)
+    (render : Renders) (browse : Browse) (view : View) (media : Beside) (guest : Bool) (reader : Reader) (puts_left for_people : Bool)
+    (request : Request)
     (what : EditRequest) (edit : Edit) (value : List ℕ) (tags : List EntityTag) (page : Page)
     → request.if_match ≡ Some value → named_by value ≡ Some (OneOf tags)
     → page_at view.pages (path_of_edit edit) ≡ Some page → has_tag Strong (tag_of page) tags ≡ false
-    → ¬ ((by_entry render browse view guest reader puts_left for_people request what).edit ≡ Some edit)
+    → ¬ ((by_entry render browse view media guest reader puts_left for_people request what).edit ≡ Some edit)
 
 -- an edit whose request has `If-None-Match: *` is of a path where no page stands (RFC 9110, section 13.1.2)
 abbrev pub NothingIsReplacedUnasked : Type 0
 NothingIsReplacedUnasked =
-    (render : Renders) (browse : Browse) (view : View) (guest : Bool) (reader : Reader) (puts_left for_people : Bool) (request : Request)
+    (render : Renders) (browse : Browse) (view : View) (media : Beside) (guest : Bool) (reader : Reader) (puts_left for_people : Bool)
+    (request : Request)
     (what : EditRequest) (edit : Edit) (value : List ℕ)
-    → (by_entry render browse view guest reader puts_left for_people request what).edit ≡ Some edit
+    → (by_entry render browse view media guest reader puts_left for_people request what).edit ≡ Some edit
     → request.if_none_match ≡ Some value → named_by value ≡ Some Any → page_at view.pages (path_of_edit edit) ≡ None
 
 -- ---- tags that are told
@@ -105,7 +111,8 @@ TagOf view text (Some edit) tag = TagAfter view text edit tag
 -- stands behind that
 abbrev pub ToldTagsAreThePages : Type 0
 ToldTagsAreThePages =
-    (render : Renders) (browse : Browse) (view : View) (guest : Bool) (reader : Reader) (puts_left for_people : Bool) (request : Request)
+    (render : Renders) (browse : Browse) (view : View) (media : Beside) (guest : Bool) (reader : Reader) (puts_left for_people : Bool)
+    (request : Request)
     (what : EditRequest) (told : EditReply) (tag : List ℕ)
-    → (by_entry render browse view guest reader puts_left for_people request what).reply ≡ Told told → told.tag ≡ Some tag
-    → TagOf view request.body (by_entry render browse view guest reader puts_left for_people request what).edit tag
+    → (by_entry render browse view media guest reader puts_left for_people request what).reply ≡ Told told → told.tag ≡ Some tag
+    → TagOf view request.body (by_entry render browse view media guest reader puts_left for_people request what).edit tag

@@ -1,6 +1,7 @@
 //! Requests that edit, as they are answered.
 
 ghost use Rattle.std.specs.Prelude.{◌≡◌, IfOk, Some, false, true};
+ghost use Rattle.doc_media.specs.Media.{beside_of};
 ghost use Rattle.doc_shelf_pages.specs.ViewLaws.{seen_in};
 ghost use Rattle.doc_hub_answers.specs.AnswerSteps.{AnsweredSo};
 ghost use Rattle.doc_hub_answers.specs.Counts.{RendersPuts, moves_of, previews_of};
@@ -22,6 +23,7 @@ use doc_hub_answers::exchange::Exchange;
 use doc_hub_editing_refusals::edit_request::EditRequest;
 use doc_hub_editing_refusals::refusal::{Refusal, refusal_to};
 use doc_hub_people::visit::{Visit, unauthorized};
+use doc_media::media::Media;
 use doc_page::renderer::Renderer;
 use doc_page_parts::failure::Memory;
 use doc_people::settings::Browse;
@@ -34,6 +36,8 @@ pub struct Editing<'a> {
     pub browse: &'a Browse,
     /// The entry of who asks.
     pub reader: &'a Reader,
+    /// The media of the site.
+    pub media: &'a Option<Media>,
     /// Whether a guest asks.
     pub guest: bool,
     /// Whether the request is one for people.
@@ -50,7 +54,8 @@ impl Editing<'_> {
     ) -> Result<Answer, Memory>
         ensures answer { AnsweredSo self.now.exchange.now.request.now.body shelf.old.1
             (editing_sent self.now.exchange.now (by_entry (R.page shelf.old.0)
-            self.now.browse.now (seen_in shelf.old.1 self.now.reader.now) self.now.guest
+            self.now.browse.now (seen_in shelf.old.1 self.now.reader.now)
+            (beside_of self.now.media.now (Some self.now.reader.now)) self.now.guest
             self.now.reader.now (puts_taken self.now.exchange.now.takes_puts shelf.old.1.puts)
             self.now.for_people self.now.exchange.now.request.now
             (edit_request_shown asked.entry))) shelf.new.1 result }
@@ -64,7 +69,7 @@ impl Editing<'_> {
             return self.by_other(shelf, asked);
         }
         if let EditRequest::Preview(rest) = asked {
-            return preview(self.visit(), shelf, self.reader, rest);
+            return preview(self.visit(), shelf, self.reader, self.media, rest);
         }
         let answer = self.by_owner(shelf, asked)?;
         let heap = self.exchange.heap;
@@ -84,6 +89,7 @@ impl Editing<'_> {
             (R.page shelf.now.0) self.now.browse.now
             (offers_for self.now.browse.now self.now.guest self.now.reader.now.owner)
             (seen_in shelf.now.1 self.now.reader.now)
+            (beside_of self.now.media.now (Some self.now.reader.now))
             (puts_taken self.now.exchange.now.takes_puts shelf.now.1.puts) self.now.for_people
             self.now.exchange.now.request.now (edit_request_shown asked.entry))) }
     {
@@ -120,7 +126,7 @@ impl Editing<'_> {
             (edit_request_shown asked.entry))) }
     {
         let visit = self.visit();
-        let view = shelf.view(self.reader);
+        let view = shelf.view(self.reader, self.media);
         let refusal = refusal_to(visit.frame(), &view, self.guest, self.for_people, asked)?;
         refused_with(visit, refusal)
     }
@@ -154,6 +160,7 @@ impl Editing<'_> {
             visit: self.visit(),
             shelf,
             reader: self.reader,
+            media: self.media,
             for_people: self.for_people,
         }
     }

@@ -22,6 +22,7 @@ use doc_hub_answers::Shelf;
 use doc_hub_answers::answer::Answer;
 use doc_hub_answers::goals::goal_answer;
 use doc_hub_people::visit::Visit;
+use doc_media::media::Media;
 use doc_page::renderer::Renderer;
 use doc_page_parts::failure::Memory;
 use doc_page_parts::heap::{Heap, String};
@@ -43,6 +44,7 @@ pub struct Forms<'a, R: Renderer + Drop> {
     pub visit: Visit<'a>,
     pub shelf: &'a Shelf<R>,
     pub reader: &'a Reader,
+    pub media: &'a Option<Media>,
     /// Whether the request is one for people.
     pub for_people: bool,
 }
@@ -73,7 +75,7 @@ impl<R: Renderer + Drop> Forms<'_, R> {
         let Some(folder) = folder else {
             return self.not_found();
         };
-        let view = self.shelf.view(self.reader);
+        let view = self.shelf.view(self.reader, self.media);
         let body = new_body(self.visit.frame(), &view, folder.get())?;
         self.guarded_page(&body)
     }
@@ -106,7 +108,7 @@ impl<R: Renderer + Drop> Forms<'_, R> {
     {
         let tag = PageTag::of_page(page);
         let names = names_text(self.visit.exchange.heap, page.groups())?;
-        let view = self.shelf.view(self.reader);
+        let view = self.shelf.view(self.reader, self.media);
         let body = edit_body(
             self.visit.frame(),
             &view,
@@ -125,7 +127,7 @@ impl<R: Renderer + Drop> Forms<'_, R> {
             (offers_of self.now.visit) (seen_in self.now.shelf.now.1 self.now.reader.now)
             self.now.for_people path.now None None))) }
     {
-        let view = self.shelf.view(self.reader);
+        let view = self.shelf.view(self.reader, self.media);
         let body = begin_body(self.visit.frame(), &view, path.text())?;
         self.guarded_page(&body)
     }
@@ -152,7 +154,8 @@ impl<R: Renderer + Drop> Forms<'_, R> {
             (seen_in self.now.shelf.now.1 self.now.reader.now) self.now.for_people)) }
     {
         if self.for_people {
-            self.visit.not_found(&self.shelf.view(self.reader), None)
+            self.visit
+                .not_found(&self.shelf.view(self.reader, self.media), None)
         } else {
             self.visit.exchange.status(Status::NotFound)
         }

@@ -2,6 +2,7 @@
 
 ghost use Rattle.std.specs.Prelude.{◌≡◌, ◌+◌, IfOk, Some, codes};
 ghost use Rattle.doc_http_targets.specs.WrittenPaths.{path_written};
+ghost use Rattle.doc_media.specs.Media.{beside_of};
 ghost use Rattle.doc_people_editing.specs.Policies.{preview_policy};
 ghost use Rattle.doc_shelf_pages.specs.ViewLaws.{seen_in};
 ghost use Rattle.doc_hub_answers.specs.Counts.{previews_of};
@@ -16,6 +17,8 @@ use doc_http_targets::written_path::written_path;
 use doc_hub_answers::Shelf;
 use doc_hub_answers::answer::Answer;
 use doc_hub_people::visit::Visit;
+use doc_media::media::Media;
+use doc_media_links::BesideLinker;
 use doc_page::renderer::Renderer;
 use doc_page_parts::failure::Memory;
 use doc_page_parts::filling::fill;
@@ -24,7 +27,6 @@ use doc_page_parts::rendered::Rendered;
 use doc_page_parts::text::Text;
 use doc_people_editing::policies::PREVIEW_POLICY;
 use doc_people_editing::preview::preview_body;
-use doc_resolve::SiteLinker;
 use doc_store::reader::Reader;
 use std::str::from_utf8;
 
@@ -34,10 +36,12 @@ pub fn preview<R: Renderer + Drop>(
     visit: Visit<'_>,
     shelf: &mut Shelf<R>,
     reader: &Reader,
+    media: &Option<Media>,
     rest: &str,
 ) -> Result<Answer, Memory>
     ensures answer { IfOk result (λ a. a ≡ editing_sent visit.entry.exchange.now (preview_at
         (R.page shelf.old.0) visit.entry.browse.now (seen_in shelf.old.1 reader.now)
+        (beside_of media.now (Some reader.now))
         (path_written rest.now) visit.entry.exchange.now.request.now)) }
     ensures store { shelf.new.1 ≡ shelf.old.1 }
     ensures same { R.page shelf.new.0 ≡ R.page shelf.old.0 }
@@ -45,7 +49,7 @@ pub fn preview<R: Renderer + Drop>(
         (shows_preview_at (path_written rest.now) visit.entry.exchange.now.request.now)) }
 {
     match written_path(visit.exchange.heap, rest)? {
-        Some(path) => preview_at(visit, shelf, reader, &path),
+        Some(path) => preview_at(visit, shelf, reader, media, &path),
         None => visit.exchange.status(Status::NotFound),
     }
 }
@@ -55,10 +59,12 @@ fn preview_at<R: Renderer + Drop>(
     visit: Visit<'_>,
     shelf: &mut Shelf<R>,
     reader: &Reader,
+    media: &Option<Media>,
     path: &Path,
 ) -> Result<Answer, Memory>
     ensures answer { IfOk result (λ a. a ≡ editing_sent visit.entry.exchange.now (preview_text
         (R.page shelf.old.0) visit.entry.browse.now (seen_in shelf.old.1 reader.now)
+        (beside_of media.now (Some reader.now))
         path.now visit.entry.exchange.now.request.now)) }
     ensures store { shelf.new.1 ≡ shelf.old.1 }
     ensures same { R.page shelf.new.0 ≡ R.page shelf.old.0 }
@@ -73,7 +79,7 @@ fn preview_at<R: Renderer + Drop>(
         return no_text(visit);
     };
     let rendered = shelf.render(text)?;
-    shown(visit, shelf, reader, path, &rendered)
+    shown(visit, shelf, reader, media, path, &rendered)
 }
 
 /// The answer that the body is no text.
@@ -102,16 +108,21 @@ fn shown<R: Renderer + Drop>(
     visit: Visit<'_>,
     shelf: &Shelf<R>,
     reader: &Reader,
+    media: &Option<Media>,
     path: &Path,
     rendered: &Rendered,
 ) -> Result<Answer, Memory>
     ensures { IfOk result (λ a. a ≡ editing_sent visit.entry.exchange.now (only_reply (Shown
-        (preview_of visit.entry.browse.now (seen_in shelf.now.1 reader.now) path.now
-        rendered.now)))) }
+        (preview_of visit.entry.browse.now (seen_in shelf.now.1 reader.now)
+        (beside_of media.now (Some reader.now)) path.now rendered.now)))) }
 {
     let heap = visit.exchange.heap;
     let sight = shelf.store().sight(reader);
-    let html = fill(heap, rendered, &SiteLinker::new(path, &sight))?;
+    let html = fill(
+        heap,
+        rendered,
+        &BesideLinker::new(path, &sight, media, reader),
+    )?;
     let body = preview_body(
         heap,
         visit.browse,

@@ -79,6 +79,7 @@ step_refusal step_errors.NoConnection = refusals.NoConnection
 step_refusal step_errors.Memory = refusals.Memory
 
 abbrev pub edit_refusal : EditError → Refusal
+edit_refusal edit_errors.Taken = refusals.Taken
 edit_refusal edit_errors.TooLong = refusals.TooLong
 edit_refusal edit_errors.StoreFull = refusals.StoreFull
 edit_refusal edit_errors.Memory = refusals.Memory

@@ -166,6 +166,7 @@ impl From<EditError> for Refusal {
 
     fn from(error: EditError) -> Refusal {
         match error {
+            EditError::Taken => Refusal::Taken,
             EditError::TooLong => Refusal::TooLong,
             EditError::StoreFull => Refusal::StoreFull,
             EditError::Memory => Refusal::Memory,

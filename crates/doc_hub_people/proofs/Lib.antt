@@ -1,1 +1,2 @@
+mod OfferExamples
 pub mod AskingLaws

@@ -1,5 +1,5 @@
 -- What a request for the pages for people is answered: a function of the settings, of what a renderer makes of each text, of the view of
--- who asks, of who asks and of the request, and of nothing else. All of this is this project's choice.
+-- who asks, of the media that they see, of who asks and of the request, and of nothing else. All of this is this project's choice.
 use Rattle.std.specs.Prelude.{ℕ, List, [], ◌++◌, Bool, true, false, ◌&&◌, codes, is_some, Option, Some, None, if◌then◌else◌}
 use Rattle.doc_http.specs.declared.request.Request.{Request}
 use Rattle.doc_http_replies.specs.Heads.{policy}
@@ -11,9 +11,11 @@ use Rattle.doc_http_targets.specs.Targets.{Route}
 use Rattle.doc_http_targets.specs.Targets as routes
 use Rattle.doc_http_targets.specs.WrittenFolders.{folder_written}
 use Rattle.doc_http_targets.specs.WrittenPaths.{path_written}
+use Rattle.doc_media.specs.Media.{Beside}
 use Rattle.doc_page_encoding.specs.Encoding.{encoded_path}
 use Rattle.doc_people.specs.BrokenLinks.{broken_body}
 use Rattle.doc_people.specs.Folders.{page_href, sees_folder}
+use Rattle.doc_people.specs.KeptPaths.{begun_at}
 use Rattle.doc_people.specs.Lists.{backlinks_body, contents_body}
 use Rattle.doc_people.specs.Pages.{page_body}
 use Rattle.doc_people.specs.Search.{search_body, search_code}
@@ -46,7 +48,7 @@ abbrev pub unauthorized_reply : Browse → PeopleReply
 unauthorized_reply browse =
     record { code = 401; location = None; realm = realm_of browse; policy = policy; body = not_signed_in_body browse }
 
--- there is nothing that who asks may see; where it is the path of a page, one may be begun there
+-- there is nothing that who asks may see; where a page may be begun at the path, it is offered
 abbrev pub not_found_reply : Renders → Browse → Offers → View → Option (List ℕ) → PeopleReply
 not_found_reply render browse offers view new = page_reply 404 (not_found_body render browse offers view new)
 
@@ -58,16 +60,17 @@ goal_reply render browse offers view front new None = not_found_reply render bro
 goal_reply render browse offers view front new (Some goal) = moved_reply browse (front ++ encoded_path goal)
 
 -- a page that is seen, or where an alias leads that is seen, or nothing: what is hidden and what is absent are the same here
-abbrev pub page_or_goal : Renders → Browse → Offers → View → List ℕ → Option Page → Option (List ℕ) → PeopleReply
-page_or_goal render browse offers view path (Some page) goal =
-    page_reply 200 (page_body render browse offers view path (render page.text))
-page_or_goal render browse offers view path None goal = goal_reply render browse offers view (codes "/page/") (Some path) goal
+abbrev pub page_or_goal : Renders → Browse → Offers → View → Beside → List ℕ → Option Page → Option (List ℕ) → PeopleReply
+page_or_goal render browse offers view media path (Some page) goal =
+    page_reply 200 (page_body render browse offers view media path (render page.text))
+page_or_goal render browse offers view media path None goal =
+    goal_reply render browse offers view (codes "/page/") (begun_at view media path) goal
 
 -- the page of the path that the target writes, or of none
-abbrev pub page_under : Renders → Browse → Offers → View → Option (List ℕ) → PeopleReply
-page_under render browse offers view None = not_found_reply render browse offers view None
-page_under render browse offers view (Some path) =
-    page_or_goal render browse offers view path (page_at view.pages path) (goal_in view path)
+abbrev pub page_under : Renders → Browse → Offers → View → Beside → Option (List ℕ) → PeopleReply
+page_under render browse offers view media None = not_found_reply render browse offers view None
+page_under render browse offers view media (Some path) =
+    page_or_goal render browse offers view media path (page_at view.pages path) (goal_in view path)
 
 -- the pages that link to one that is seen, from a text on
 abbrev pub backlinks_or_goal : Renders → Browse → Offers → View → List ℕ → List ℕ → Option Page → Option (List ℕ) → PeopleReply
@@ -112,31 +115,31 @@ offers_for browse guest owner = record { sign_in = guest && has_sign_in browse; 
 
 -- ---- what a route leads to
 
-abbrev pub reply_at : Renders → Browse → Offers → View → List ℕ → Route → PeopleReply
-reply_at render browse offers view target (routes.Page rest) = page_under render browse offers view (path_written rest)
-reply_at render browse offers view target (routes.Backlinks rest) =
+abbrev pub reply_at : Renders → Browse → Offers → View → Beside → List ℕ → Route → PeopleReply
+reply_at render browse offers view media target (routes.Page rest) = page_under render browse offers view media (path_written rest)
+reply_at render browse offers view media target (routes.Backlinks rest) =
     backlinks_under render browse offers view (parameter target (codes "from")) (path_written rest)
-reply_at render browse offers view target routes.Contents =
+reply_at render browse offers view media target routes.Contents =
     page_reply 200 (contents_body render browse offers view [] (parameter target (codes "from")))
-reply_at render browse offers view target routes.Search =
+reply_at render browse offers view media target routes.Search =
     page_reply (search_code (parameter target (codes "q"))) (search_body render browse offers view (parameter target (codes "q")))
-reply_at render browse offers view target routes.Broken =
-    page_reply 200 (broken_body render browse offers view (parameter target (codes "from")))
+reply_at render browse offers view media target routes.Broken =
+    page_reply 200 (broken_body render browse offers view media (parameter target (codes "from")))
 
-abbrev pub people_at : Renders → Browse → Offers → View → Bool → List ℕ → PeopleRoute → PeopleReply
-people_at render browse offers view guest target people_routes.Front =
+abbrev pub people_at : Renders → Browse → Offers → View → Beside → Bool → List ℕ → PeopleRoute → PeopleReply
+people_at render browse offers view media guest target people_routes.Front =
     moved_reply browse (front_location (goal_in view browse.home))
-people_at render browse offers view guest target people_routes.SignIn =
+people_at render browse offers view media guest target people_routes.SignIn =
     sign_in_by render browse offers view (has_sign_in browse) guest
-people_at render browse offers view guest target (people_routes.Folder rest) =
+people_at render browse offers view media guest target (people_routes.Folder rest) =
     folder_reply render browse offers view (parameter target (codes "from")) (folder_written rest)
-people_at render browse offers view guest target (people_routes.Plain route) =
-    reply_at render browse offers view target route
+people_at render browse offers view media guest target (people_routes.Plain route) =
+    reply_at render browse offers view media target route
 
 -- the route, where there is one
-abbrev pub on_route : Renders → Browse → Offers → View → Bool → List ℕ → Option PeopleRoute → PeopleReply
-on_route render browse offers view guest target None = not_found_reply render browse offers view None
-on_route render browse offers view guest target (Some route) = people_at render browse offers view guest target route
+abbrev pub on_route : Renders → Browse → Offers → View → Beside → Bool → List ℕ → Option PeopleRoute → PeopleReply
+on_route render browse offers view media guest target None = not_found_reply render browse offers view None
+on_route render browse offers view media guest target (Some route) = people_at render browse offers view media guest target route
 
 -- the path that a route asks the page of, if it asks for one and writes a path
 abbrev pub page_at_plain : Route → Option (List ℕ)
@@ -157,13 +160,13 @@ page_asked None = None
 page_asked (Some route) = page_at_route route
 
 -- who asks first: nobody gets nothing, whatever is asked
-abbrev pub reply_to : Renders → Browse → View → Asking → List ℕ → PeopleReply
-reply_to render browse view asked.Nobody target = unauthorized_reply browse
-reply_to render browse view (asked.Guest row) target =
-    on_route render browse (offers_for browse true row.owner) view true target (people_route_of target)
-reply_to render browse view (asked.Known row) target =
-    on_route render browse (offers_for browse false row.owner) view false target (people_route_of target)
+abbrev pub reply_to : Renders → Browse → View → Beside → Asking → List ℕ → PeopleReply
+reply_to render browse view media asked.Nobody target = unauthorized_reply browse
+reply_to render browse view media (asked.Guest row) target =
+    on_route render browse (offers_for browse true row.owner) view media true target (people_route_of target)
+reply_to render browse view media (asked.Known row) target =
+    on_route render browse (offers_for browse false row.owner) view media false target (people_route_of target)
 
 -- the reply to a request for people
-unfoldable pub people_reply : Renders → Browse → View → Asking → Request → PeopleReply
-people_reply render browse view asking request = reply_to render browse view asking request.target
+unfoldable pub people_reply : Renders → Browse → View → Beside → Asking → Request → PeopleReply
+people_reply render browse view media asking request = reply_to render browse view media asking request.target

@@ -65,7 +65,7 @@ pub fn search_answer<V: Viewed>(visit: Visit<'_>, view: &V) -> Result<Answer, Me
 pub fn broken_answer<V: Viewed>(visit: Visit<'_>, view: &V) -> Result<Answer, Memory>
     ensures { IfOk result (λ a. a ≡ people_sent visit.entry.exchange.now (page_reply 200
         (broken_body (V.render view.now) visit.entry.browse.now (offers_of visit.entry)
-        (V.view view.now)
+        (V.view view.now) (V.media view.now)
         (parameter visit.entry.exchange.now.request.now.target (codes "from"))))) }
 {
     let from = named(visit, "from")?;

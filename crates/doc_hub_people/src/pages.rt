@@ -4,6 +4,7 @@ ghost use Rattle.std.specs.Prelude.{◌≡◌, ◌++◌, IfOk, codes, option_cop
 ghost use Rattle.doc_http_targets.specs.Queries.{parameter};
 ghost use Rattle.doc_http_targets.specs.WrittenPaths.{path_written};
 ghost use Rattle.doc_page_encoding.specs.Encoding.{encoded_path};
+ghost use Rattle.doc_people.specs.KeptPaths.{begun_at};
 ghost use Rattle.doc_store_readers.specs.Sites.{goal_in};
 ghost use Rattle.doc_hub_people.specs.PeopleAnswers.{backlinks_under, front_location, goal_reply, moved_reply, page_under};
 ghost use Rattle.doc_hub_people.specs.VisitSteps.{offers_of, people_sent};
@@ -36,7 +37,7 @@ pub fn front_answer<V: Viewed>(visit: Visit<'_>, view: &V) -> Result<Answer, Mem
 pub fn page_answer<V: Viewed>(visit: Visit<'_>, view: &V, rest: &str) -> Result<Answer, Memory>
     ensures { IfOk result (λ a. a ≡ people_sent visit.entry.exchange.now (page_under
         (V.render view.now) visit.entry.browse.now (offers_of visit.entry) (V.view view.now)
-        (path_written rest.now))) }
+        (V.media view.now) (path_written rest.now))) }
 {
     let Some(path) = written_path(visit.exchange.heap, rest)? else {
         return visit.not_found(view, None);
@@ -47,7 +48,7 @@ pub fn page_answer<V: Viewed>(visit: Visit<'_>, view: &V, rest: &str) -> Result<
     }
     match page_body(frame, view, &path)? {
         Some(body) => visit.page(200, &body),
-        None => goal_answer(visit, view, "/page/", &path, Some(path.text())),
+        None => goal_answer(visit, view, "/page/", &path, begun_at(view, &path)),
     }
 }
 
@@ -73,7 +74,17 @@ pub fn backlinks_answer<V: Viewed>(visit: Visit<'_>, view: &V, rest: &str) -> Re
     visit.page(200, &body)
 }
 
-/// The answer at a path where no page is seen; where the path is that of a page, one may be begun there.
+/// The path, where a page may begin at it: at none that is kept for media.
+fn begun_at<'a, V: Viewed>(view: &V, path: &'a Path) -> Option<&'a str>
+    ensures { option_copied result ≡ begun_at (V.view view.now) (V.media view.now) path.now }
+{
+    if view.is_kept(path) {
+        return None;
+    }
+    Some(path.text())
+}
+
+/// The answer at a path where no page is seen; where a page may be begun at one, it is offered.
 fn goal_answer<V: Viewed>(
     visit: Visit<'_>,
     view: &V,

@@ -25,7 +25,7 @@ pub fn people_answer<V: Viewed>(
 ) -> Result<Answer, Memory>
     ensures { IfOk result (λ a. a ≡ people_sent visit.entry.exchange.now (on_route
         (V.render view.now) visit.entry.browse.now (offers_of visit.entry) (V.view view.now)
-        visit.entry.guest visit.entry.exchange.now.request.now.target
+        (V.media view.now) visit.entry.guest visit.entry.exchange.now.request.now.target
         (people_route_of visit.entry.exchange.now.request.now.target))) }
 {
     match routes.people_route(visit.exchange.request.target.get()) {
@@ -49,7 +49,7 @@ pub fn page_asked(visit: Visit<'_>, routes: &Routes) -> Result<Option<Path>, Mem
 fn at_route<V: Viewed>(visit: Visit<'_>, route: PeopleRoute<'_>, view: &V) -> Result<Answer, Memory>
     ensures { IfOk result (λ a. a ≡ people_sent visit.entry.exchange.now (people_at
         (V.render view.now) visit.entry.browse.now (offers_of visit.entry) (V.view view.now)
-        visit.entry.guest visit.entry.exchange.now.request.now.target
+        (V.media view.now) visit.entry.guest visit.entry.exchange.now.request.now.target
         (people_route_shown route.entry))) }
 {
     match route {

@@ -7,6 +7,7 @@ use Rattle.doc_http_targets.specs.EditTargets as edit_routes
 use Rattle.doc_http_targets.specs.Targets.{Route, route_of}
 use Rattle.doc_http_targets.specs.Targets as routes
 use Rattle.doc_http_targets.specs.WrittenPaths.{path_written}
+use Rattle.doc_media.specs.Media.{Beside}
 use Rattle.doc_people.specs.declared.settings.Browse.{Browse}
 use Rattle.doc_people.specs.declared.settings.Offers.{Offers}
 use Rattle.doc_store_readers.specs.Pages.{Page}
@@ -29,27 +30,27 @@ use Rattle.doc_hub_editing.specs.EditResponses.{EditingReply, EditingResponse, u
 
 -- ---- to whom they are answered
 
-module _ (render : Renders) (browse : Browse) (view : View) (left people : Bool) (request : Request) where
+module _ (render : Renders) (browse : Browse) (view : View) (beside : Beside) (left people : Bool) (request : Request) where
   abbrev by : Asking → Option EditRequest → Option EditingResponse
-  by asking what = response_if render browse view asking left people request what
+  by asking what = response_if render browse view beside asking left people request what
 
   nobody_by : (what : Option EditRequest) → by asked.Nobody what ≡ None
   nobody_by None = refl
   nobody_by (Some what) = refl
 
   -- nobody who may read isn't answered so
-  pub nobody_edits : edit_response render browse view asked.Nobody left people request ≡ None
+  pub nobody_edits : edit_response render browse view beside asked.Nobody left people request ≡ None
   unfolding edit_response
   nobody_edits = nobody_by (edit_request_of browse request)
 
   -- nor is a request that doesn't edit
   pub nothing_is_asked : (asking : Asking) → edit_request_of browse request ≡ None
-      → edit_response render browse view asking left people request ≡ None
+      → edit_response render browse view beside asking left people request ≡ None
   unfolding edit_response
   nothing_is_asked asking none = ap (by asking) none
 
   -- whoever has no entry is nobody
-  pub without_entry : (asking : Asking) → None ≡ row_of asking → edit_response render browse view asking left people request ≡ None
+  pub without_entry : (asking : Asking) → None ≡ row_of asking → edit_response render browse view beside asking left people request ≡ None
   without_entry asked.Nobody none = nobody_edits
   without_entry (asked.Guest row) none = cc
   without_entry (asked.Known row) none = cc
@@ -57,7 +58,7 @@ module _ (render : Renders) (browse : Browse) (view : View) (left people : Bool)
   -- by the entry of who asks, where there is one
   abbrev entered : Bool → EditRequest → Option Reader → Option EditingResponse
   entered guest what None = None
-  entered guest what (Some row) = Some (by_entry render browse view guest row left people request what)
+  entered guest what (Some row) = Some (by_entry render browse view beside guest row left people request what)
 
   entry_by : (asking : Asking) (what : EditRequest) → by asking (Some what) ≡ entered (is_guest asking) what (row_of asking)
   entry_by asked.Nobody what = refl
@@ -67,8 +68,8 @@ module _ (render : Renders) (browse : Browse) (view : View) (left people : Bool)
   -- whoever has one is answered by it
   pub with_entry : (asking : Asking) (row : Reader) (what : EditRequest) → Some row ≡ row_of asking
       → edit_request_of browse request ≡ Some what
-      → edit_response render browse view asking left people request
-      ≡ Some (by_entry render browse view (is_guest asking) row left people request what)
+      → edit_response render browse view beside asking left people request
+      ≡ Some (by_entry render browse view beside (is_guest asking) row left people request what)
   unfolding edit_response
   with_entry asking row what some is =
       ap (by asking) is ∙ entry_by asking what ∙ ap (entered (is_guest asking) what) (sym some)
@@ -178,17 +179,17 @@ module _ (render : Renders) (browse : Browse) (offers : Offers) (view : View) wh
   open_alone : (people : Bool) (rest : List ℕ) → (open_form render browse offers view people rest).edit ≡ None
   open_alone people rest = open_by people (begins_path rest) (folder_begun rest) (path_written rest)
 
-  owner_alone : (left people : Bool) (request : Request) (what : EditRequest) → Reads what
-      → (by_owner render browse offers view left people request what).edit ≡ None
-  owner_alone left people request (requests.ReadSource rest) read = read_alone view (path_written rest) request
-  owner_alone left people request (requests.PutSource rest) read = absurd read
-  owner_alone left people request (requests.PutPage rest) read = absurd read
-  owner_alone left people request (requests.Remove rest) read = absurd read
-  owner_alone left people request (requests.Regroup rest) read = absurd read
-  owner_alone left people request (requests.Move rest) read = absurd read
-  owner_alone left people request (requests.Open rest) read = open_alone people rest
-  owner_alone left people request (requests.Preview rest) read = absurd read
-  owner_alone left people request (requests.NotAllowed resource) read = refl
+  owner_alone : (beside : Beside) (left people : Bool) (request : Request) (what : EditRequest) → Reads what
+      → (by_owner render browse offers view beside left people request what).edit ≡ None
+  owner_alone beside left people request (requests.ReadSource rest) read = read_alone view (path_written rest) request
+  owner_alone beside left people request (requests.PutSource rest) read = absurd read
+  owner_alone beside left people request (requests.PutPage rest) read = absurd read
+  owner_alone beside left people request (requests.Remove rest) read = absurd read
+  owner_alone beside left people request (requests.Regroup rest) read = absurd read
+  owner_alone beside left people request (requests.Move rest) read = absurd read
+  owner_alone beside left people request (requests.Open rest) read = open_alone people rest
+  owner_alone beside left people request (requests.Preview rest) read = absurd read
+  owner_alone beside left people request (requests.NotAllowed resource) read = refl
 
   unauthorized_alone : (people : Bool) → (unauthorized browse people).edit ≡ None
   unauthorized_alone true = refl
@@ -204,21 +205,21 @@ module _ (render : Renders) (browse : Browse) (offers : Offers) (view : View) wh
   other_alone true people what = unauthorized_alone people
   other_alone false people what = forbidden_alone people what
 
-module _ (render : Renders) (browse : Browse) (view : View) (left people : Bool) (request : Request) where
+module _ (render : Renders) (browse : Browse) (view : View) (beside : Beside) (left people : Bool) (request : Request) where
   reading_by : (offers : Offers) (guest owner : Bool) (what : EditRequest) → Reads what
-      → (let response : EditingResponse = (if owner then by_owner render browse offers view left people request what
+      → (let response : EditingResponse = (if owner then by_owner render browse offers view beside left people request what
       else by_other render browse offers view guest people what) in response.edit ≡ None)
-  reading_by offers guest true what read = owner_alone render browse offers view left people request what read
+  reading_by offers guest true what read = owner_alone render browse offers view beside left people request what read
   reading_by offers guest false what read = other_alone render browse offers view guest people what
 
   other_by : (offers : Offers) (guest owner : Bool) (what : EditRequest) → owner ≡ false
-      → (let response : EditingResponse = (if owner then by_owner render browse offers view left people request what
+      → (let response : EditingResponse = (if owner then by_owner render browse offers view beside left people request what
       else by_other render browse offers view guest people what) in response.edit ≡ None)
   other_by offers guest true what none = cc
   other_by offers guest false what none = other_alone render browse offers view guest people what
 
   reading_edits_nothing : (asking : Asking) (what : Option EditRequest) → AllReads what
-      → EditsNothing (response_if render browse view asking left people request what)
+      → EditsNothing (response_if render browse view beside asking left people request what)
   reading_edits_nothing asking None read = tt
   reading_edits_nothing asked.Nobody (Some what) read = tt
   reading_edits_nothing (asked.Guest row) (Some what) read = reading_by (offers_for browse true row.owner) true row.owner what read
@@ -226,19 +227,19 @@ module _ (render : Renders) (browse : Browse) (view : View) (left people : Bool)
 
   -- what reads edits nothing
   pub who_reads_edits_nothing : (asking : Asking) → reads (method_of request.method) ≡ true
-      → EditsNothing (edit_response render browse view asking left people request)
+      → EditsNothing (edit_response render browse view beside asking left people request)
   unfolding edit_response
   who_reads_edits_nothing asking is =
       reading_edits_nothing asking (edit_request_of browse request) (request_reads browse request is)
 
   guest_by : (row : Reader) (what : Option EditRequest) → row.owner ≡ false
-      → EditsNothing (response_if render browse view (asked.Guest row) left people request what)
+      → EditsNothing (response_if render browse view beside (asked.Guest row) left people request what)
   guest_by row None none = tt
   guest_by row (Some what) none = other_by (offers_for browse true row.owner) true row.owner what none
 
   -- nor does a guest
   pub guests_edit_nothing_so : (asking : Asking) → OwnsNothing asking → is_guest asking ≡ true
-      → EditsNothing (edit_response render browse view asking left people request)
+      → EditsNothing (edit_response render browse view beside asking left people request)
   unfolding edit_response
   guests_edit_nothing_so asked.Nobody none is = cc
   guests_edit_nothing_so (asked.Guest row) none is = guest_by row (edit_request_of browse request) none

@@ -4,6 +4,7 @@ use Rattle.std.specs.Prelude.{◌&&◌, ◌==◌, Option, Some, None, if◌then�
 use Rattle.doc_http.specs.declared.request.Request.{Request}
 use Rattle.doc_http_targets.specs.Targets.{Route, route_of}
 use Rattle.doc_http_targets.specs.Targets as routes
+use Rattle.doc_media.specs.Media.{Beside}
 use Rattle.doc_store_readers.specs.Sites.{View}
 use Rattle.doc_store_readers.specs.declared.reader.Reader.{Reader}
 use Rattle.doc_hub_answers.specs.Replies.{Renders, Response, at_route}
@@ -17,9 +18,9 @@ use Rattle.doc_hub_replies.specs.Answers.{kept_from_guests}
 
 -- ---- who owns nothing
 
-module _ (render : Renders) (view : View) (left : Bool) (request : Request) where
+module _ (render : Renders) (view : View) (beside : Beside) (left : Bool) (request : Request) where
   abbrev at : Route → Method → Response
-  at route method = at_route render view false left route request method
+  at route method = at_route render view beside false left route request method
 
   -- nothing of it is an edit
   at_edits_nothing : (route : Route) (method : Method) → (at route method).edit ≡ None
@@ -48,19 +49,19 @@ module _ (render : Renders) (view : View) (left : Bool) (request : Request) wher
 
   -- the same where there may be no route
   abbrev on : Option Route → Response
-  on route = on_route render view false left route request
+  on route = on_route render view beside false left route request
 
   on_edits_nothing : (route : Option Route) → (on route).edit ≡ None
   on_edits_nothing None = refl
   on_edits_nothing (Some route) = at_edits_nothing route (method_of request.method)
 
-  by_row : (row : Reader) → row.owner ≡ false → response_to render view (Some row) left request ≡ on (route_of request.target)
-  by_row row owns = ap (λ owner. on_route render view owner left (route_of request.target) request) owns
+  by_row : (row : Reader) → row.owner ≡ false → response_to render view beside (Some row) left request ≡ on (route_of request.target)
+  by_row row owns = ap (λ owner. on_route render view beside owner left (route_of request.target) request) owns
 
   -- ---- who asks
 
   abbrev by : Asking → Response
-  by asking = response_to render view (row_of asking) left request
+  by asking = response_to render view beside (row_of asking) left request
 
   kept_edits_nothing : (guest forbidden : Bool) (response : Response) → response.edit ≡ None
       → (let kept : Response = (if guest && forbidden then refused 401 else response) in kept.edit ≡ None)

@@ -1,4 +1,6 @@
 pub mod AnswerLaws
+mod BesideSteps
 mod EditLaws
 pub mod GuestSteps
+mod MediaExamples
 mod ServingSteps

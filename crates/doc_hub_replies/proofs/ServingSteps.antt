@@ -8,6 +8,7 @@ use Rattle.doc_http_replies.specs.Manners.{dress_of}
 use Rattle.doc_http_replies.specs.PeopleReplies.{PeopleReply, people_bytes}
 use Rattle.doc_http_replies.specs.declared.manner.Manner.{Manner}
 use Rattle.doc_http_targets.specs.PeopleTargets.{people_route_of}
+use Rattle.doc_media.specs.Media.{Beside, Media, beside_of}
 use Rattle.doc_page_parts.specs.declared.failure.Memory.{Memory}
 use Rattle.doc_people.specs.declared.settings.Browse.{Browse}
 use Rattle.doc_people.specs.declared.settings.Settings.{Settings}
@@ -32,7 +33,7 @@ use Rattle.doc_hub_editing.specs.EditResponses.{EditingResponse, editing_answer,
 use Rattle.doc_hub_editing.specs.EditSteps.{editing_sent}
 use Rattle.doc_hub_replies.proofs.AnswerLaws.{answer_with, answer_without, is_edited, is_plain, is_shown, is_style, is_unedited}
 use Rattle.doc_hub_replies.proofs.EditLaws.{with_entry}
-use Rattle.doc_hub_replies.specs.Answers.{answer_of, asks_for_style, browsed, dress_for, is_for_people, kept_from_guests}
+use Rattle.doc_hub_replies.specs.Answers.{asks_for_style, browsed, dress_for, is_for_people, kept_from_guests}
 use Rattle.doc_hub_replies.specs.Answers.{people_answer, style_answer, unedited}
 use Rattle.doc_hub_replies.specs.ServingSteps.{closes_after}
 
@@ -61,80 +62,86 @@ module _ (exchange : Exchange) (request : Request) (manner : Manner) (close : Bo
 -- ---- the same by the entry of who asks
 
 module _ (render : Renders) (browse : Browse) (request : Request) where
-  pub nobody_is_told : (view : View) (asking : Asking) → None ≡ row_of asking
-      → unauthorized_reply browse ≡ people_reply render browse view asking request
+  pub nobody_is_told : (view : View) (beside : Beside) (asking : Asking) → None ≡ row_of asking
+      → unauthorized_reply browse ≡ people_reply render browse view beside asking request
   unfolding people_reply
-  nobody_is_told view asked.Nobody none = refl
-  nobody_is_told view (asked.Guest row) none = cc
-  nobody_is_told view (asked.Known row) none = cc
+  nobody_is_told view beside asked.Nobody none = refl
+  nobody_is_told view beside (asked.Guest row) none = cc
+  nobody_is_told view beside (asked.Known row) none = cc
 
-  pub somebody_is_shown : (site : Site) (row : Reader) (guest owner : Bool) (target : List ℕ) (asking : Asking) → Some row ≡ row_of asking
-      → guest ≡ is_guest asking → owner ≡ owns asking → target ≡ request.target
-      → on_route render browse (offers_for browse guest owner) (view_of site (Some row)) guest target (people_route_of target)
-      ≡ people_reply render browse (view_of site (row_of asking)) asking request
+  pub somebody_is_shown : (site : Site) (media : Media) (row : Reader) (guest owner : Bool) (target : List ℕ) (asking : Asking)
+      → Some row ≡ row_of asking → guest ≡ is_guest asking → owner ≡ owns asking → target ≡ request.target
+      → on_route render browse (offers_for browse guest owner) (view_of site (Some row)) (beside_of media (Some row)) guest target
+      (people_route_of target)
+      ≡ people_reply render browse (view_of site (row_of asking)) (beside_of media (row_of asking)) asking request
   unfolding people_reply
-  somebody_is_shown site row guest owner target asked.Nobody some is own by = cc
-  somebody_is_shown site row guest owner target (asked.Guest other) some is own by =
-      λ i. on_route render browse (offers_for browse (is i) (own i)) (view_of site (some i)) (is i) (by i) (people_route_of (by i))
-  somebody_is_shown site row guest owner target (asked.Known other) some is own by =
-      λ i. on_route render browse (offers_for browse (is i) (own i)) (view_of site (some i)) (is i) (by i) (people_route_of (by i))
+  somebody_is_shown site media row guest owner target asked.Nobody some is own by = cc
+  somebody_is_shown site media row guest owner target (asked.Guest other) some is own by =
+      λ i. on_route render browse (offers_for browse (is i) (own i)) (view_of site (some i)) (beside_of media (some i)) (is i) (by i)
+      (people_route_of (by i))
+  somebody_is_shown site media row guest owner target (asked.Known other) some is own by =
+      λ i. on_route render browse (offers_for browse (is i) (own i)) (view_of site (some i)) (beside_of media (some i)) (is i) (by i)
+      (people_route_of (by i))
 
 -- ---- with settings
 
-module _ (browse : Browse) (render : Renders) (store : StoreState) (left close : Bool) (request : Request) (told : Asking)
+module _ (browse : Browse) (render : Renders) (store : StoreState) (media : Media) (left close : Bool) (request : Request) (told : Asking)
     (new : StoreState) (result : Result Answer Memory) where
   abbrev view_for : Asking → View
   view_for who = view_of store.site (row_of who)
+
+  abbrev beside_for : Asking → Beside
+  beside_for who = beside_of media (row_of who)
 
   abbrev So : Answer → Type 0
   So answer = AnsweredSo request.body store answer new result
 
   pub people_so : new ≡ store → is_for_people request ≡ true
-      → IfOk result (λ a. a ≡ people_answer (people_reply render browse (view_for told) told request) close request)
-      → So (unedited browse render (view_for told) told left close request)
+      → IfOk result (λ a. a ≡ people_answer (people_reply render browse (view_for told) (beside_for told) told request) close request)
+      → So (unedited browse render (view_for told) (beside_for told) told left close request)
   people_so stays people is =
-      subst So (is_shown browse render (view_for told) told left close request people)
-      (subst (λ after. AnsweredSo request.body store (people_answer (people_reply render browse (view_for told) told request) close request)
+      subst So (is_shown browse render (view_for told) (beside_for told) told left close request people)
+      (subst (λ after. AnsweredSo request.body store (people_answer (people_reply render browse (view_for told) (beside_for told) told request) close request)
       after result) (sym stays)
-      (told_alone store request.body (people_answer (people_reply render browse (view_for told) told request) close request) result is
+      (told_alone store request.body (people_answer (people_reply render browse (view_for told) (beside_for told) told request) close request) result is
       refl))
 
   pub plain_so : is_for_people request ≡ false
       → So (plain_answer (dress_for browse told) (kept_from_guests (is_guest told)
-      (response_to render (view_for told) (row_of told) left request)) close request)
-      → So (unedited browse render (view_for told) told left close request)
-  plain_so people answered = subst So (is_plain browse render (view_for told) told left close request people) answered
+      (response_to render (view_for told) (beside_for told) (row_of told) left request)) close request)
+      → So (unedited browse render (view_for told) (beside_for told) told left close request)
+  plain_so people answered = subst So (is_plain browse render (view_for told) (beside_for told) told left close request people) answered
 
   module _ (asking : Asking) (same : told ≡ asking) (style : asks_for_style request ≡ false) where
-    by_asking : So (browsed browse render (view_for told) told left close request)
-        → So (browsed browse render (view_for asking) asking left close request)
-    by_asking answered = subst (λ who. So (browsed browse render (view_for who) who left close request)) same answered
+    by_asking : So (browsed browse render (view_for told) (beside_for told) told left close request)
+        → So (browsed browse render (view_for asking) (beside_for asking) asking left close request)
+    by_asking answered = subst (λ who. So (browsed browse render (view_for who) (beside_for who) who left close request)) same answered
 
-    pub unedited_so : edit_response render browse (view_for told) told left (is_for_people request) request ≡ None
-        → So (unedited browse render (view_for told) told left close request)
-        → So (browsed browse render (view_for asking) asking left close request)
+    pub unedited_so : edit_response render browse (view_for told) (beside_for told) told left (is_for_people request) request ≡ None
+        → So (unedited browse render (view_for told) (beside_for told) told left close request)
+        → So (browsed browse render (view_for asking) (beside_for asking) asking left close request)
     unedited_so none answered =
-        by_asking (subst So (is_unedited browse render (view_for told) told left close request style none) answered)
+        by_asking (subst So (is_unedited browse render (view_for told) (beside_for told) told left close request style none) answered)
 
     pub edited_so : (row : Reader) (what : EditRequest) → Some row ≡ row_of told → edit_request_of browse request ≡ Some what
-        → So (editing_answer (dress_for browse told) (by_entry render browse (view_of store.site (Some row)) (is_guest told) row left
+        → So (editing_answer (dress_for browse told) (by_entry render browse (view_of store.site (Some row)) (beside_of media (Some row)) (is_guest told) row left
         (is_for_people request) request what) close request)
-        → So (browsed browse render (view_for asking) asking left close request)
+        → So (browsed browse render (view_for asking) (beside_for asking) asking left close request)
     edited_so row what some is answered =
         by_asking (subst So
-        (is_edited browse render (view_for told) told left close request
-        (by_entry render browse (view_for told) (is_guest told) row left (is_for_people request) request what) style
-        (with_entry render browse (view_for told) left (is_for_people request) request told row what some is))
+        (is_edited browse render (view_for told) (beside_for told) told left close request
+        (by_entry render browse (view_for told) (beside_for told) (is_guest told) row left (is_for_people request) request what) style
+        (with_entry render browse (view_for told) (beside_for told) left (is_for_people request) request told row what some is))
         (subst (λ entry. So (editing_answer (dress_for browse told)
-        (by_entry render browse (view_of store.site entry) (is_guest told) row left (is_for_people request) request what) close request))
+        (by_entry render browse (view_of store.site entry) (beside_of media entry) (is_guest told) row left (is_for_people request) request what) close request))
         some answered))
 
-pub style_so : (browse : Browse) (render : Renders) (view : View) (asking : Asking) (store : StoreState) (left close : Bool)
+pub style_so : (browse : Browse) (render : Renders) (view : View) (beside : Beside) (asking : Asking) (store : StoreState) (left close : Bool)
     (request : Request) (result : Result Answer Memory) → asks_for_style request ≡ true
     → IfOk result (λ a. a ≡ style_answer close request)
-    → AnsweredSo request.body store (browsed browse render view asking left close request) store result
-style_so browse render view asking store left close request result style is =
-    subst (λ answer. AnsweredSo request.body store answer store result) (is_style browse render view asking left close request style)
+    → AnsweredSo request.body store (browsed browse render view beside asking left close request) store result
+style_so browse render view beside asking store left close request result style is =
+    subst (λ answer. AnsweredSo request.body store answer store result) (is_style browse render view beside asking left close request style)
     (told_alone store request.body (style_answer close request) result is refl)
 
 -- a response to a request that edits, in an exchange that a request began
@@ -181,26 +188,20 @@ counted_as rendered accepted rendered' accepted' shows shown result same counted
 
 -- ---- by the settings
 
-module _ (settings : Settings) (render : Renders) (readers : ReaderTable) (left : Bool) (request : Request) (old new : StoreState)
+module _ (settings : Settings) (render : Renders) (media : Media) (readers : ReaderTable) (left : Bool) (request : Request)
+    (old new : StoreState)
     (result : Result Answer Memory) where
   abbrev wants : Option Browse → Type 0
   wants browse =
-      AnsweredSo request.body old (answer_with render old.site readers left (closes_after settings request) request browse) new result
-
-  abbrev Wanted : Type 0
-  Wanted = AnsweredSo request.body old (answer_of settings render
-      (view_of old.site (row_of (reader_asking settings.browse readers request))) (reader_asking settings.browse readers request) left
-      request) new result
+      AnsweredSo request.body old (answer_with render old.site media readers left (closes_after settings request) request browse) new result
 
   pub answered_without : None ≡ settings.browse
       → AnsweredSo request.body old (plain_answer undressed (response_to render (view_of old.site (entry_of readers request))
-      (entry_of readers request) left request) (closes_after settings request) request) new result → Wanted
-  unfolding answer_of
+      (beside_of media (entry_of readers request)) (entry_of readers request) left request) (closes_after settings request) request) new result → wants settings.browse
   answered_without none answered =
       subst wants none
       (subst (λ answer. AnsweredSo request.body old answer new result)
-      (sym (answer_without render old.site readers left (closes_after settings request) request)) answered)
+      (sym (answer_without render old.site media readers left (closes_after settings request) request)) answered)
 
-  pub answered_with : (browse : Browse) → Some browse ≡ settings.browse → wants (Some browse) → Wanted
-  unfolding answer_of
+  pub answered_with : (browse : Browse) → Some browse ≡ settings.browse → wants (Some browse) → wants settings.browse
   answered_with browse some answered = subst wants some answered

@@ -1,6 +1,12 @@
 //! Laws of answers. The functions do nothing: their contracts are the laws.
 
-ghost use Rattle.doc_hub_replies.specs.Laws.{GuestsEditNothing, NothingChangesWithoutEditing, NothingChangesWithoutSettings, OnlyPeopleAreShownPages, PeopleEditNothing, UnauthorizedIsAlike};
+ghost use Rattle.doc_hub_replies.specs.Laws.{GuestsEditNothing, NothingChangesWithoutEditing, NothingChangesWithoutMedia, NothingChangesWithoutSettings, OnlyPeopleAreShownPages, PeopleEditNothing, UnauthorizedIsAlike};
+
+/// Without media each answer is what it is by the pages alone.
+#[tactic(auto, using(crate::proofs::AnswerLaws::nothing_changes_without_media))]
+pub fn nothing_changes_without_media()
+    ensures { NothingChangesWithoutMedia }
+{}
 
 /// Without settings for people each answer is the response's to the entry of the bearer's token.
 #[tactic(auto, using(crate::proofs::AnswerLaws::nothing_changes_without_settings))]

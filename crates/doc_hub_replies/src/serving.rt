@@ -5,6 +5,7 @@ ghost use Rattle.doc_http.specs.Requests.{is_bare};
 ghost use Rattle.doc_http_replies.specs.Heads.{undressed};
 ghost use Rattle.doc_http_replies.specs.Manners.{dress_of};
 ghost use Rattle.doc_http_targets.specs.Targets.{route_of, route_shown};
+ghost use Rattle.doc_media.specs.Media.{beside_of};
 ghost use Rattle.doc_store_readers.specs.Sites.{view_of};
 ghost use Rattle.doc_hub_answers.specs.AnswerSteps.{Answered, AnsweredSo, entry_of};
 ghost use Rattle.doc_hub_answers.specs.Counts.{RendersPuts, moves_of, previews_of};
@@ -19,7 +20,7 @@ ghost use Rattle.doc_hub_editing_refusals.specs.AskedSteps.{edit_request_shown};
 ghost use Rattle.doc_hub_editing.specs.EditAnswers.{by_entry, is_preview};
 ghost use Rattle.doc_hub_editing.specs.EditAnswers as edit_answers;
 ghost use Rattle.doc_hub_editing.specs.EditResponses.{editing_answer};
-ghost use Rattle.doc_hub_replies.specs.Answers.{answer_of, browsed, dress_for, is_for_people, kept_from_guests, people_answer, shows_preview, style_answer, unedited};
+ghost use Rattle.doc_hub_replies.specs.Answers.{answer_by, answer_of, asks_preview, browsed, dress_for, is_for_people, kept_from_guests, people_answer, shows_preview, style_answer, unedited};
 ghost use Rattle.doc_hub_replies.specs.ServingSteps.{closes_after, edits_at, edits_page};
 
 use crate::asked::{asks_for_style, head_only, is_for_people};
@@ -41,6 +42,7 @@ use doc_hub_editing::editing::Editing;
 use doc_hub_editing_refusals::edit_request::EditRequest;
 use doc_hub_people::people::{page_asked, people_answer};
 use doc_hub_people::visit::{Visit, realm_of, unauthorized};
+use doc_media::media::Media;
 use doc_page::renderer::Renderer;
 use doc_page_parts::failure::Memory;
 use doc_page_parts::heap::Heap;
@@ -56,13 +58,15 @@ pub struct Serving<'a> {
     pub routes: &'a Routes,
     pub readers: &'a Readers,
     pub settings: &'a Settings,
+    /// The media that stand beside the pages, where the configuration asks for some.
+    pub media: &'a Option<Media>,
     /// Whether puts are taken.
     pub takes_puts: bool,
 }
 
 impl Serving<'_> {
-    /// The answer to a request, and the edit that it asks for, which is made. With settings for people the style
-    /// sheet comes first, then who asks, then whether the request edits by these settings, then whether it is for
+    /// The answer to a request, and the edit that it asks for, which is made. Where media have no part in it, with settings for people
+    /// the style sheet comes first, then who asks, then whether the request edits by these settings, then whether it is for
     /// people. Refused are, in this order, who has no entry, what has no route, and what the method refuses. Where
     /// memory runs out the pages are as they were.
     pub fn answer<R: Renderer + Drop>(
@@ -74,12 +78,42 @@ impl Serving<'_> {
             self.now.readers.now request.now in
             AnsweredSo request.now.body shelf.old.1
             (answer_of self.now.settings.now (R.page shelf.old.0)
-            (view_of shelf.old.1.site (row_of asking)) asking
+            (view_of shelf.old.1.site (row_of asking))
+            (beside_of self.now.media.now (row_of asking)) asking
             (puts_taken self.now.takes_puts shelf.old.1.puts) request.now) shelf.new.1 result }
+        ensures same { R.page shelf.new.0 ≡ R.page shelf.old.0 }
+        ensures counted { let asking = reader_asking self.now.settings.now.browse
+            self.now.readers.now request.now in
+            IfOk result (λ a. RendersPuts (R.count shelf.old.0) shelf.old.1.puts
+            (R.count shelf.new.0) shelf.new.1.puts (moves_of a.edit)
+            (previews_of (shows_preview self.now.settings.now.browse
+            (view_of shelf.old.1.site (row_of asking))
+            (beside_of self.now.media.now (row_of asking)) asking request.now))) }
+    {
+        match self.by_media(shelf, request)? {
+            Some(answer) => Ok(answer),
+            None => self.by_pages(shelf, request),
+        }
+    }
+
+    /// The answer to a request in which media have no part, but for the links to them.
+    fn by_pages<R: Renderer + Drop>(
+        &self,
+        shelf: &mut Shelf<R>,
+        request: &Request,
+    ) -> Result<Answer, Memory>
+        ensures answer { let asking = reader_asking self.now.settings.now.browse
+            self.now.readers.now request.now in
+            AnsweredSo request.now.body shelf.old.1
+            (answer_by self.now.settings.now.browse (R.page shelf.old.0)
+            (view_of shelf.old.1.site (row_of asking))
+            (beside_of self.now.media.now (row_of asking)) asking
+            (puts_taken self.now.takes_puts shelf.old.1.puts)
+            (closes_after self.now.settings.now request.now) request.now) shelf.new.1 result }
         ensures same { R.page shelf.new.0 ≡ R.page shelf.old.0 }
         ensures counted { IfOk result (λ a. RendersPuts (R.count shelf.old.0) shelf.old.1.puts
             (R.count shelf.new.0) shelf.new.1.puts (moves_of a.edit)
-            (previews_of (shows_preview self.now.settings.now.browse
+            (previews_of (asks_preview self.now.settings.now.browse
             (reader_asking self.now.settings.now.browse self.now.readers.now request.now)
             request.now))) }
     {
@@ -98,7 +132,7 @@ impl Serving<'_> {
         ensures answer { let entry = entry_of self.now.readers.now request.now in
             AnsweredSo request.now.body shelf.old.1
             (plain_answer undressed (response_to (R.page shelf.old.0)
-            (view_of shelf.old.1.site entry) entry
+            (view_of shelf.old.1.site entry) (beside_of self.now.media.now entry) entry
             (puts_taken self.now.takes_puts shelf.old.1.puts) request.now)
             (closes_after self.now.settings.now request.now) request.now) shelf.new.1 result }
         ensures same { R.page shelf.new.0 ≡ R.page shelf.old.0 }
@@ -123,7 +157,7 @@ impl Serving<'_> {
         ensures answer { let asking = reader_asking (Some browse.now) self.now.readers.now
             request.now in AnsweredSo request.now.body shelf.old.1
             (browsed browse.now (R.page shelf.old.0) (view_of shelf.old.1.site (row_of asking))
-            asking (puts_taken self.now.takes_puts shelf.old.1.puts)
+            (beside_of self.now.media.now (row_of asking)) asking (puts_taken self.now.takes_puts shelf.old.1.puts)
             (closes_after self.now.settings.now request.now) request.now) shelf.new.1 result }
         ensures same { R.page shelf.new.0 ≡ R.page shelf.old.0 }
         ensures counted { IfOk result (λ a. RendersPuts (R.count shelf.old.0) shelf.old.1.puts
@@ -157,7 +191,7 @@ impl Serving<'_> {
         ensures answer { AnsweredSo request.now.body shelf.old.1
             (editing_answer (dress_for browse.now (asking_shown asking.now))
             (by_entry (R.page shelf.old.0) browse.now (view_of shelf.old.1.site (Some row.now))
-            (is_guest (asking_shown asking.now)) row.now
+            (beside_of self.now.media.now (Some row.now)) (is_guest (asking_shown asking.now)) row.now
             (puts_taken self.now.takes_puts shelf.old.1.puts)
             (is_for_people request.now) request.now (edit_request_shown asked.entry))
             (closes_after self.now.settings.now request.now) request.now) shelf.new.1 result }
@@ -172,6 +206,7 @@ impl Serving<'_> {
             exchange: &exchange,
             browse,
             reader: row,
+            media: self.media,
             guest: asking.is_guest(),
             for_people: is_for_people(request),
         };
@@ -190,7 +225,8 @@ impl Serving<'_> {
             ≡ reader_asking (Some browse.now) self.now.readers.now request.now }
         ensures answer { let asking = asking_shown asking.now in
             AnsweredSo request.now.body shelf.old.1 (unedited browse.now (R.page shelf.old.0)
-            (view_of shelf.old.1.site (row_of asking)) asking
+            (view_of shelf.old.1.site (row_of asking))
+            (beside_of self.now.media.now (row_of asking)) asking
             (puts_taken self.now.takes_puts shelf.old.1.puts)
             (closes_after self.now.settings.now request.now) request.now) shelf.new.1 result }
         ensures same { R.page shelf.new.0 ≡ R.page shelf.old.0 }
@@ -228,8 +264,9 @@ impl Serving<'_> {
     ) -> Result<Answer, Memory>
         ensures answer { IfOk result (λ a. a
             ≡ people_answer (people_reply (R.page shelf.old.0) browse.now
-            (view_of shelf.old.1.site (row_of (asking_shown asking.now))) (asking_shown asking.now)
-            request.now) (closes_after self.now.settings.now request.now) request.now) }
+            (view_of shelf.old.1.site (row_of (asking_shown asking.now)))
+            (beside_of self.now.media.now (row_of (asking_shown asking.now)))
+            (asking_shown asking.now) request.now) (closes_after self.now.settings.now request.now) request.now) }
         ensures same { shelf.new ≡ shelf.old }
     {
         let manner = self.manner(request, browse, asking);
@@ -255,13 +292,14 @@ impl Serving<'_> {
     ) -> Result<Answer, Memory>
         ensures answer { IfOk result (λ a. a ≡ people_sent visit.entry.exchange.now (on_route
             (R.page shelf.old.0) visit.entry.browse.now (offers_of visit.entry)
-            (view_of shelf.old.1.site (Some row.now)) visit.entry.guest
+            (view_of shelf.old.1.site (Some row.now))
+            (beside_of self.now.media.now (Some row.now)) visit.entry.guest
             visit.entry.exchange.now.request.now.target
             (people_route_of visit.entry.exchange.now.request.now.target))) }
         ensures same { shelf.new ≡ shelf.old }
     {
         self.keep_page(visit, shelf, row);
-        people_answer(visit, self.routes, &shelf.view(row))
+        people_answer(visit, self.routes, &shelf.view(row, self.media))
     }
 
     /// Before a request for people is answered: the page that it asks for is made and kept, unless it is kept.
@@ -271,7 +309,7 @@ impl Serving<'_> {
         let Ok(Some(path)) = page_asked(visit, self.routes) else {
             return;
         };
-        shelf.keep_body(visit.frame(), &path, row);
+        shelf.keep_body(visit.frame(), &path, row, self.media);
     }
 
     /// The answer to another request, where there are settings for people. A guest edits nothing: they are asked to sign in.
@@ -287,7 +325,8 @@ impl Serving<'_> {
         ensures answer { let asking = asking_shown asking.now in
             AnsweredSo request.now.body shelf.old.1 (plain_answer (dress_for browse.now asking)
             (kept_from_guests (is_guest asking) (response_to (R.page shelf.old.0)
-            (view_of shelf.old.1.site (row_of asking)) (row_of asking)
+            (view_of shelf.old.1.site (row_of asking))
+            (beside_of self.now.media.now (row_of asking)) (row_of asking)
             (puts_taken self.now.takes_puts shelf.old.1.puts) request.now))
             (closes_after self.now.settings.now request.now) request.now) shelf.new.1 result }
         ensures same { R.page shelf.new.0 ≡ R.page shelf.old.0 }
@@ -319,7 +358,8 @@ impl Serving<'_> {
     ) -> Result<Answer, Memory>
         requires { exchange.now.method ≡ method_of exchange.now.request.now.method }
         ensures answer { let entry = option_copied reader.entry in Answered exchange.now shelf.old.1
-            (response_to (R.page shelf.old.0) (view_of shelf.old.1.site entry) entry
+            (response_to (R.page shelf.old.0) (view_of shelf.old.1.site entry)
+            (beside_of self.now.media.now entry) entry
             (puts_taken exchange.now.takes_puts shelf.old.1.puts) exchange.now.request.now)
             shelf.new.1 result }
         ensures same { R.page shelf.new.0 ≡ R.page shelf.old.0 }
@@ -332,7 +372,7 @@ impl Serving<'_> {
         let Some(route) = self.routes.route(exchange.request.target.get()) else {
             return exchange.status(Status::NotFound);
         };
-        at_route(exchange, shelf, reader, route)
+        at_route(exchange, shelf, reader, self.media, route)
     }
 
     /// Whether the request of an exchange edits a page.
@@ -347,7 +387,7 @@ impl Serving<'_> {
     }
 
     /// The exchange that a request begins.
-    fn exchange<'a>(&self, request: &'a Request, manner: Manner<'a>) -> Exchange<'a>
+    pub(crate) fn exchange<'a>(&self, request: &'a Request, manner: Manner<'a>) -> Exchange<'a>
         ensures request { result.request.now ≡ request.now }
         ensures method { result.method ≡ method_of request.now.method }
         ensures manner { result.manner ≡ manner.entry }
@@ -363,7 +403,12 @@ impl Serving<'_> {
     }
 
     /// How the replies to who asks are written, where there are settings for people.
-    fn manner<'a>(&self, request: &Request, browse: &'a Browse, asking: &Asking) -> Manner<'a>
+    pub(crate) fn manner<'a>(
+        &self,
+        request: &Request,
+        browse: &'a Browse,
+        asking: &Asking,
+    ) -> Manner<'a>
         ensures dress { dress_of result ≡ dress_for browse.now (asking_shown asking.now) }
         ensures head_only { result.head_only ≡ is_bare request.now.method }
         ensures close { result.close ≡ closes_after self.now.settings.now request.now }
@@ -377,14 +422,14 @@ impl Serving<'_> {
         }
     }
 
-    fn closes_after(&self, request: &Request) -> bool
+    pub(crate) fn closes_after(&self, request: &Request) -> bool
         ensures { result ≡ closes_after self.now.settings.now request.now }
     {
         request.close || !self.settings.keep_alive
     }
 
     /// The entry of the request's token.
-    fn reader_of(&self, request: &Request) -> Option<&Reader>
+    pub(crate) fn reader_of(&self, request: &Request) -> Option<&Reader>
         ensures { option_copied result ≡ entry_of self.now.readers.now request.now }
     {
         match bearer(request) {

@@ -10,4 +10,5 @@ with_options rules options = record {
   strikethrough = options.strikethrough;
   tasks = options.tasks;
   bare_links = options.bare_links;
+  images = options.images;
 }

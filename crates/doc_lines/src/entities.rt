@@ -145,6 +145,13 @@ impl Entities {
         self.options.bare_links
     }
 
+    /// Whether a page tells its images.
+    pub fn images(&self) -> bool
+        ensures { result ≡ self.now.images }
+    {
+        self.options.images
+    }
+
     /// The one or two characters of a name, which is given without `&` and `;`.
     pub fn find(&self, name: &str) -> Option<(char, Option<char>)>
         ensures { option_map characters result ≡ find_entity self.now.names (chars name.now) }

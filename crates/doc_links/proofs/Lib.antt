@@ -7,6 +7,7 @@ pub mod NamedSteps
 pub mod NamingSteps
 pub mod NumberingSteps
 pub mod OrderSteps
+pub mod PlaceSteps
 pub mod SourceSteps
 pub mod StampSteps
 pub mod TallySteps

@@ -1,5 +1,5 @@
 -- How an index of links holds what it knows, and how its answers are put together.
-use Rattle.std.specs.Prelude.{◌≡◌, ◌≢◌, ℕ, ◌+◌, List, [], ◌∷◌, map as mapped, count_by, Bool, false, ◌==◌, Option, Some, None, if◌then◌else◌, unwrap_or}
+use Rattle.std.specs.Prelude.{◌≡◌, ◌≢◌, ℕ, ◌+◌, List, [], ◌∷◌, map as mapped, count_by, Bool, false, ◌==◌, Option, Some, None, if◌then◌else◌, option_map, unwrap_or}
 use Rattle.std.specs.FinMap as map
 use Rattle.std.specs.List.{flat_map}
 use Rattle.std.specs.declared.cmp.Ordering.{Ordering}
@@ -19,6 +19,15 @@ with_values f m = map.from_entries (mapped (λ e. (e.0, f e.1)) (map.entries m))
 -- what is held, without the counts of keys
 abbrev pub without_counts : List (Option (Held PageLinks)) → PairMap PageLinks
 without_counts slots = with_values (λ (page : Known PageLinks). page.value) (held slots)
+
+-- what there is
+abbrev pub ones : {X : Type 0} → Option X → List X
+ones None = []
+ones (Some x) = x ∷ []
+
+-- a path with what is held under it and a stamp, where something is
+abbrev pub linked_at : PairMap PageLinks → List ℕ × ℕ → List (List ℕ × PageLinks)
+linked_at index place = ones (option_map (λ page. (place.0, page)) (map.get index place))
 
 -- a link leads to a target, whether that is seen or not
 abbrev pub goes_to : (List ℕ → Option (List ℕ)) → List ℕ → LinkKind → Bool

@@ -8,6 +8,7 @@
 mod entries;
 mod link_index;
 mod numbering;
+mod places;
 mod sources;
 mod tally;
 mod written;

@@ -3,26 +3,30 @@
 ghost use Rattle.std.specs.Prelude.{◌≡◌, ℕ, List as Seq, Bool, None, IfOk, IsTrue, OnOk, OnErr, is_some, map as mapped, option_copied};
 ghost use Rattle.std.specs.Prelude.{option_map};
 ghost use Rattle.std.specs.FinMap as map;
-ghost use Rattle.std.specs.List.{filter};
+ghost use Rattle.std.specs.List.{filter, flat_map};
 ghost use Rattle.doc_page_parts.specs.Sights.{leads_to_itself, seen};
-ghost use Rattle.doc_links_pages.specs.Links.{backlinks, broken, contents, page_at};
+ghost use Rattle.doc_links_pages.specs.Links.{backlinks, broken, broken_with, contents, page_at};
 ghost use Rattle.doc_links_pages.specs.Names.{AreNames};
 ghost use Rattle.doc_links_pages.specs.PageLinks.{IsOnce, page_links, pages_of};
+ghost use Rattle.doc_links_pages.specs.declared.answers.Broken.{Broken as BrokenLink};
 ghost use Rattle.doc_links_pages.specs.declared.page_links.PageLinks.{PageLinks};
 ghost use Rattle.doc_links_seen.specs.SeenPages.{seen_page, seen_pages};
-ghost use Rattle.doc_links_seen.specs.SeenSteps.{pages_at};
-ghost use Rattle.doc_links.specs.IndexSteps.{links_to, without_counts};
+ghost use Rattle.doc_links_seen.specs.SeenSteps.{IsInOrder, pages_at};
+ghost use Rattle.doc_links_seen.specs.Tellers.{AreToldOf};
+ghost use Rattle.doc_links.specs.IndexSteps.{linked_at, links_to, without_counts};
 
 use crate::entries::entries_of;
 use crate::numbering::{Numbering, add_numbered, leave_page};
+use crate::places::slots_at;
 use crate::sources::{count_to, sources_in};
 use crate::tally::tally_of;
 use crate::written::{sources_at, written_in};
 use doc_index::index::Index;
 use doc_links_pages::answers::{Broken, Entry};
 use doc_links_pages::known::Known;
-use doc_links_seen::report::{broken_in, broken_numbered};
+use doc_links_seen::report::{broken_in, broken_numbered, broken_told};
 use doc_links_seen::seen::{SeenPage, seen_in, slots_flagged};
+use doc_links_seen::teller::Teller;
 use doc_page_parts::failure::Memory;
 use doc_page_parts::heap::{Heap, Vec};
 use doc_page_parts::list::List;
@@ -190,17 +194,21 @@ impl LinkIndex {
         broken_in(self.heap, &pages, sight)
     }
 
-    /// As `broken`, told of each page that is held, by path and then by stamp, whether it is seen.
-    pub fn broken_flagged<S: Sight>(
+    /// As `broken`, told of each page that is held, by path and then by stamp, whether it is seen. Behind the links of each page stands
+    /// what the teller tells of it.
+    pub fn broken_flagged<S: Sight, T: Teller>(
         &self,
         flags: &[bool],
         sight: &S,
+        teller: &T,
     ) -> Result<List<Broken>, Memory>
         requires once { IsOnce self.now }
         requires seen { flags.now ≡ mapped
             (λ page. leads_to_itself (S.goals sight.now page.0) page.0) (pages_of self.now) }
-        ensures { IfOk result (λ all.
-            all ≡ broken (S.goals sight.now) (seen (S.goals sight.now) (pages_of self.now))) }
+        ensures { (behind : Seq ℕ → Seq BrokenLink)
+            → AreToldOf (T.told teller.now) behind self.now → IfOk result (λ all.
+            all ≡ broken_with behind (S.goals sight.now)
+            (seen (S.goals sight.now) (pages_of self.now))) }
     {
         let slots = slots_seen(self.heap, &self.pages, flags)?;
         broken_numbered(
@@ -211,7 +219,25 @@ impl LinkIndex {
             &self.numbering.numbers,
             &self.numbering.named,
             sight,
+            teller,
         )
+    }
+
+    /// The broken links of the pages that are held at these places, each a path and a stamp. They are all pages that the sight sees, and
+    /// stand in the order of their paths. Behind the links of each page stands what the teller tells of it. No other page is looked at.
+    pub fn broken_at<S: Sight, T: Teller>(
+        &self,
+        places: &[(Path, u64)],
+        sight: &S,
+        teller: &T,
+    ) -> Result<List<Broken>, Memory>
+        ensures { (behind : Seq ℕ → Seq BrokenLink) → AreToldOf (T.told teller.now) behind self.now
+            → IsInOrder (flat_map (linked_at self.now) places.now) → IfOk result (λ all.
+            all ≡ broken_with behind (S.goals sight.now)
+            (flat_map (linked_at self.now) places.now)) }
+    {
+        let slots = slots_at(self.heap, &self.pages, places)?;
+        broken_told(self.heap, &self.pages, &slots, sight, teller)
     }
 
     /// The pages that a sight sees and that have links to a page which it sees, by path, each with the number of these links. There

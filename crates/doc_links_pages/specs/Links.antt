@@ -53,6 +53,10 @@ broken_from goals pages source place (link ∷ links) =
 unfoldable pub broken : (List ℕ → Option (List ℕ)) → List (List ℕ × PageLinks) → List Broken
 broken goals pages = flat_map (λ page. broken_from goals pages page.0 1 page.1.links) pages
 
+-- the same, and behind the links of each page what else is told of it
+unfoldable pub broken_with : (List ℕ → List Broken) → (List ℕ → Option (List ℕ)) → List (List ℕ × PageLinks) → List Broken
+broken_with behind goals pages = flat_map (λ page. broken_from goals pages page.0 1 page.1.links ++ behind page.0) pages
+
 abbrev pub is_target : List ℕ → Option (List ℕ × PageLinks) → Bool
 is_target target None = false
 is_target target (Some page) = bytes_eq page.0 target

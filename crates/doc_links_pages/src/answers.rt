@@ -7,7 +7,7 @@ use doc_page_parts::path::Path;
 use doc_page_parts::rendered::Heading;
 use doc_page_parts::text::Text;
 
-/// Why a link is broken.
+/// Why a link is broken, or an image shows nothing.
 #[derive(Clone, Copy)]
 pub enum Reason {
     /// Its path leads to no page that is seen.
@@ -16,18 +16,20 @@ pub enum Reason {
     Anchor,
     /// It writes no path of a page.
     Path,
+    /// It is an image, and nothing that its reader sees stands where its source leads.
+    Image,
 }
 
-/// A broken link.
+/// A broken link, or an image that shows nothing.
 #[derive(Drop)]
 pub struct Broken {
     /// The page that has the link.
     pub source: Path,
-    /// The number of the link among all links of its page, from 1.
+    /// The number of the link among all links of its page, or of the image among its images, from 1.
     pub place: u64,
     pub reason: Reason,
     /// What the link leads to, as it is written and not by its goal: the path; with `Anchor` the path, `#` and the encoded anchor;
-    /// with `Path` the text `-`.
+    /// with `Path` the text `-`. Of an image it is the path of its source, or `-` where that is none.
     pub target: Text,
 }
 

@@ -1,6 +1,6 @@
 -- Which pages anchors lead to, as pages come and go.
-use Rattle.std.proofs.Common.{◌≡◌, ◌≢◌, ◌+◌, ◌∷◌, ◌||◌, ℕ, suc, Bool, true, false, List, arith, refl, sym, ◌∙◌, ap, subst}
-use Rattle.std.specs.Prelude.{Option, Some, slice_index_or, map as mapped}
+use Rattle.std.proofs.Common.{◌≡◌, ◌≢◌, ◌+◌, ◌∷◌, ◌||◌, ℕ, Bool, true, false, List, arith, refl, sym, ◌∙◌, ap, subst}
+use Rattle.std.specs.Prelude.{Option, slice_index_or, map as mapped}
 use Rattle.std.specs.FinMap as map
 use Rattle.std.specs.List.{list_any}
 use Rattle.std.specs.Ordering.{eq_by_cmp, nat_cmp}
@@ -8,7 +8,7 @@ use Rattle.std.proofs.lemmas.Bool.{both_ways}
 use Rattle.doc_page_parts.proofs.Orders.{is_eq_true}
 use Rattle.doc_index_tables.specs.Maps.{NumberMap}
 use Rattle.doc_links_names.specs.declared.page_numbers.PageNumbers.{PageNumbers}
-use Rattle.doc_links_seen.specs.Numbered.{AreNamed, numbers_at}
+use Rattle.doc_links_seen.specs.Numbered.{AreNamed}
 
 -- lists that have the same at each place lead alike
 pub as_they_were : (numbers : List (Option PageNumbers)) (old new : List ℕ) → ((n : ℕ) → slice_index_or new n 0 ≡ slice_index_or old n 0)

@@ -2,3 +2,4 @@ pub mod Memos
 pub mod Numbered
 pub mod SeenPages
 pub mod SeenSteps
+pub mod Tellers

@@ -1,5 +1,5 @@
 -- The numbers of the pages that slots hold, and the links that are whole by them.
-use Rattle.std.specs.Prelude.{◌≡◌, ℕ, zero, suc, List, Bool, false, true, Option, Some, None, slice_get, slice_index_or}
+use Rattle.std.specs.Prelude.{◌≡◌, ℕ, zero, suc, List, ◌++◌, Bool, false, true, Option, Some, None, slice_get, slice_index_or}
 use Rattle.std.specs.FinMap as map
 use Rattle.std.specs.List.{Contains, flat_map}
 use Rattle.doc_index.specs.Held.{slot_at}
@@ -82,6 +82,7 @@ abbrev pub AreSeen : (List ℕ → Option (List ℕ)) → List (List ℕ × Page
 AreSeen goals pages =
     (path : List ℕ) (page : List ℕ × PageLinks) → page_at pages path ≡ Some page → leads_to_itself (goals path) path ≡ true
 
--- the broken links of pages among others
-abbrev pub broken_of : (List ℕ → Option (List ℕ)) → List (List ℕ × PageLinks) → List (List ℕ × PageLinks) → List Broken
-broken_of goals pages some = flat_map (λ page. broken_from goals pages page.0 1 page.1.links) some
+-- the broken links of pages among others, and behind those of each page what else is told of it
+abbrev pub broken_of : (List ℕ → List Broken) → (List ℕ → Option (List ℕ)) → List (List ℕ × PageLinks) → List (List ℕ × PageLinks)
+    → List Broken
+broken_of behind goals pages some = flat_map (λ page. broken_from goals pages page.0 1 page.1.links ++ behind page.0) some

@@ -8,3 +8,4 @@ pub mod named;
 pub mod report;
 pub mod seen;
 pub(crate) mod stands;
+pub mod teller;

@@ -1,17 +1,20 @@
 //! Broken links.
 
-ghost use Rattle.std.specs.Prelude.{◌≡◌, ◌++◌, [], ◌∷◌, None, true, IfOk, OnOk, option_copied, option_map};
-ghost use Rattle.doc_index.specs.Held.{slot_at};
+ghost use Rattle.std.specs.Prelude.{◌≡◌, ◌++◌, ℕ, List as Seq, [], ◌∷◌, None, true, IfOk, OnOk, option_copied, option_map};
+ghost use Rattle.doc_index.specs.Held.{held, slot_at};
 ghost use Rattle.doc_links_seen.specs.Memos.{IsMemo};
 ghost use Rattle.doc_links_seen.specs.Numbered.{AreAllWhole, AreNamed, AreNumbered, AreSeen, AreWhole, broken_of, whole_of};
 ghost use Rattle.doc_links_seen.specs.SeenSteps.{IsInOrder, page_in, pages_at};
-ghost use Rattle.doc_links_pages.specs.Links.{broken, broken_by, broken_from, fault_in, fault_of, page_among};
+ghost use Rattle.doc_links_pages.specs.Links.{broken, broken_by, broken_from, broken_with, fault_in, fault_of, page_among};
+ghost use Rattle.doc_links_pages.specs.declared.answers.Broken.{Broken as BrokenLink};
 ghost use Rattle.doc_links_seen.specs.SeenPages.{seen_page, seen_pages};
+ghost use Rattle.doc_links_seen.specs.Tellers.{AreToldOf};
 
 use crate::memo::Memo;
 use crate::named::Named;
 use crate::seen::{SeenPage, pages_at};
 use crate::stands::Stands;
+use crate::teller::Teller;
 use doc_index::index::Index;
 use doc_links_names::names::Names;
 use doc_links_names::page_numbers::PageNumbers;
@@ -46,8 +49,9 @@ pub fn broken_in<S: Sight>(
 }
 
 /// The broken links of the pages in these slots, which are all that the sight sees and stand in the order of their paths. A link that
-/// is whole by its numbers is passed over, and of the others the texts are read.
-pub fn broken_numbered<S: Sight>(
+/// is whole by its numbers is passed over, and of the others the texts are read. Behind the links of each page stands what the teller
+/// tells of it.
+pub fn broken_numbered<S: Sight, T: Teller>(
     heap: Heap,
     index: &Index<Known>,
     slots: &[u64],
@@ -55,12 +59,15 @@ pub fn broken_numbered<S: Sight>(
     numbers: &[Option<PageNumbers>],
     named: &Named,
     sight: &S,
+    teller: &T,
 ) -> Result<List<Broken>, Memory>
     requires numbered { AreNumbered index.now names.now numbers.now }
     requires named { AreNamed numbers.now named.now.slots.items }
     requires order { IsInOrder (pages_at index.now slots.now) }
     requires seen { AreSeen (S.goals sight.now) (pages_at index.now slots.now) }
-    ensures { IfOk result (λ all. all ≡ broken (S.goals sight.now) (pages_at index.now slots.now)) }
+    ensures { (behind : Seq ℕ → Seq BrokenLink)
+        → AreToldOf (T.told teller.now) behind (held index.now) → IfOk result (λ all.
+        all ≡ broken_with behind (S.goals sight.now) (pages_at index.now slots.now)) }
 {
     let pages = pages_at(heap, index, slots)?;
     let stands = Stands::of(heap, names.bound(), slots, numbers, named)?;
@@ -69,14 +76,41 @@ pub fn broken_numbered<S: Sight>(
     for slot in slots {
         let slot = *slot as usize;
         push_slot(
-            heap, &mut all, index, slot, &stands, &pages, sight, &mut memo,
+            heap, &mut all, index, slot, &stands, &pages, sight, teller, &mut memo,
         )?;
     }
     Ok(List::new(all))
 }
 
-/// Adds the broken links of the page in a slot.
-fn push_slot<'a, S: Sight>(
+/// As `broken_numbered`, without numbers: the texts of all links are read.
+pub fn broken_told<S: Sight, T: Teller>(
+    heap: Heap,
+    index: &Index<Known>,
+    slots: &[u64],
+    sight: &S,
+    teller: &T,
+) -> Result<List<Broken>, Memory>
+    ensures { (behind : Seq ℕ → Seq BrokenLink)
+        → AreToldOf (T.told teller.now) behind (held index.now)
+        → IsInOrder (pages_at index.now slots.now) → IfOk result (λ all.
+        all ≡ broken_with behind (S.goals sight.now) (pages_at index.now slots.now)) }
+{
+    let pages = pages_at(heap, index, slots)?;
+    let mut all = Vec::new(heap);
+    let mut memo = Memo::new(heap);
+    let named = Named::new(heap);
+    let stands = Stands::none(heap, &named);
+    for slot in slots {
+        let slot = *slot as usize;
+        push_slot(
+            heap, &mut all, index, slot, &stands, &pages, sight, teller, &mut memo,
+        )?;
+    }
+    Ok(List::new(all))
+}
+
+/// Adds the broken links of the page in a slot, and what the teller tells of it.
+fn push_slot<'a, S: Sight, T: Teller>(
     heap: Heap,
     all: &mut Vec<Broken>,
     index: &'a Index<Known>,
@@ -84,24 +118,26 @@ fn push_slot<'a, S: Sight>(
     stands: &Stands,
     pages: &[SeenPage<'a>],
     sight: &S,
+    teller: &T,
     memo: &mut Memo<'a>,
 ) -> Result<(), Memory>
-    requires order { IsInOrder (seen_pages pages.now) }
     requires named { AreNamed stands.now.numbers.now stands.now.named.now.slots.items }
     requires whole { AreAllWhole (S.goals sight.now) (seen_pages pages.now) index.now
         stands.now.slots.items stands.now.numbers.now }
     requires memo { IsMemo (S.goals sight.now) (seen_pages pages.now) memo.old }
-    ensures all { OnOk result (all.new.items ≡ all.old.items
-        ++ broken_of (S.goals sight.now) (seen_pages pages.now)
-        (page_in (slot_at index.now slot))) }
+    ensures all { (behind : Seq ℕ → Seq BrokenLink)
+        → AreToldOf (T.told teller.now) behind (held index.now) → IsInOrder (seen_pages pages.now)
+        → OnOk result (all.new.items ≡ all.old.items ++ broken_of behind (S.goals sight.now)
+        (seen_pages pages.now) (page_in (slot_at index.now slot))) }
     ensures memo { IsMemo (S.goals sight.now) (seen_pages pages.now) memo.new }
 {
     let Some(page) = index.slot(slot) else {
         return Ok(());
     };
-    let page = SeenPage::new(&page.path, &page.value);
+    let seen = SeenPage::new(&page.path, &page.value);
     let own = stands.numbers_at(slot);
-    push_broken(heap, all, &page, own, stands, pages, sight, memo)
+    push_broken(heap, all, &seen, own, stands, pages, sight, memo)?;
+    teller.push_told(all, &page.path, page.stamp)
 }
 
 /// Adds the broken links of a page of these numbers.

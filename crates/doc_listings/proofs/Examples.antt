@@ -76,8 +76,9 @@ broken source place reason target = record { source = source; place = place; rea
 each_reason : report_text (
     broken (codes "b.md") 2 reasons.Page (codes "d.md")
     ∷ broken (codes "v.md") 1 reasons.Anchor (codes "t.md#q")
-    ∷ broken (codes "v.md") 12 reasons.Path (codes "-") ∷ []
-    ) ≡ codes "b.md\t2\tpage\td.md\nv.md\t1\tanchor\tt.md#q\nv.md\t12\tpath\t-\n"
+    ∷ broken (codes "v.md") 12 reasons.Path (codes "-")
+    ∷ broken (codes "v.md") 3 reasons.Image (codes "x.png") ∷ []
+    ) ≡ codes "b.md\t2\tpage\td.md\nv.md\t1\tanchor\tt.md#q\nv.md\t12\tpath\t-\nv.md\t3\timage\tx.png\n"
 unfolding report_text digits
 each_reason = refl
 

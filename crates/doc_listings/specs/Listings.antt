@@ -75,6 +75,7 @@ abbrev pub reason_name : Reason → List ℕ
 reason_name reasons.Page = codes "page"
 reason_name reasons.Anchor = codes "anchor"
 reason_name reasons.Path = codes "path"
+reason_name reasons.Image = codes "image"
 
 -- the page of a broken link, and its number there
 abbrev pub place_of : Broken → List ℕ

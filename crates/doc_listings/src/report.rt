@@ -66,6 +66,7 @@ fn reason_name(reason: Reason) -> &'static str
         Reason::Page => "page",
         Reason::Anchor => "anchor",
         Reason::Path => "path",
+        Reason::Image => "image",
     }
 }
 

@@ -137,15 +137,16 @@ pub two_paragraphs : plain_page (codes "a\n b \n\nc<\n") ≡ record {
   pieces = Html (codes "<p>a\nb</p>\n<p>c&lt;</p>\n") ∷ [];
   headings = [];
   texts = codes "a\nb" ∷ codes "c<" ∷ [];
+  images = [];
 }
 unfolding lines without_ending stripped paragraphs plain_html escaped
 two_paragraphs = refl
 
-pub empty_text : plain_page [] ≡ record { pieces = []; headings = []; texts = [] }
+pub empty_text : plain_page [] ≡ record { pieces = []; headings = []; texts = []; images = [] }
 unfolding lines without_ending stripped paragraphs plain_html escaped
 empty_text = refl
 
-pub blank_text : plain_page (codes " \r\n\t\n") ≡ record { pieces = []; headings = []; texts = [] }
+pub blank_text : plain_page (codes " \r\n\t\n") ≡ record { pieces = []; headings = []; texts = []; images = [] }
 unfolding lines without_ending stripped paragraphs plain_html escaped
 blank_text = refl
 

@@ -40,4 +40,5 @@ plain_page text = record {
   pieces = html_pieces (plain_html (plain_texts text));
   headings = [];
   texts = plain_texts text;
+  images = [];
 }

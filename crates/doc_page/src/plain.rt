@@ -1,4 +1,4 @@
-//! The plain renderer: paragraphs of escaped lines, without headings and links.
+//! The plain renderer: paragraphs of escaped lines, without headings, links and images.
 
 ghost use Rattle.std.specs.Prelude.{◌≡◌, ◌<◌, ◌++◌, string_bytes, IfOk, OnOk};
 ghost use Rattle.doc_page.specs.Plain.{plain_texts, plain_html, html_pieces, plain_page};
@@ -18,7 +18,7 @@ mod paragraphs;
 
 /// Makes a page of a text that has no markup. Each longest run of lines that are not blank is a
 /// paragraph: its lines are stripped of spaces and tabs, escaped, and joined by LF. There are no
-/// headings and no links. Contracts see how many calls were made. It is for callers from outside and for trials.
+/// headings, no links and no images. Contracts see how many calls were made. It is for callers from outside and for trials.
 #[derive(Drop)]
 pub struct PlainRenderer<L: Ledger> {
     count: Count<L>,
@@ -67,6 +67,7 @@ fn plain_page(heap: Heap, text: &str) -> Result<Rendered, Memory>
         pieces: html_pieces(heap, html)?,
         headings: List::new(Vec::new(heap)),
         texts: List::new(texts),
+        images: List::new(Vec::new(heap)),
     })
 }
 

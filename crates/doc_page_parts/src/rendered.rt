@@ -41,4 +41,7 @@ pub struct Rendered {
     pub headings: List<Heading>,
     /// The plain text of each block of text, in order, not escaped.
     pub texts: List<Text>,
+    /// The destination of each image, in order, with its escapes and character references read, where the renderer tells them. An image in
+    /// the text of another one is no image of the page.
+    pub images: List<Text>,
 }

@@ -9,7 +9,7 @@ front title =
     ++ codes "<meta name=\"color-scheme\" content=\"light dark\">\n<title>"
     ++ title
     ++ codes " " ++ (0xC2 ∷ 0xB7 ∷ [])
-    ++ codes " Handbook</title>\n<link rel=\"icon\" href=\"data:,\">\n<link rel=\"stylesheet\" href=\"/style.css?4\">\n"
+    ++ codes " Handbook</title>\n<link rel=\"icon\" href=\"data:,\">\n<link rel=\"stylesheet\" href=\"/style.css?5\">\n"
     ++ codes "</head>\n<body>\n"
 
 -- and the bar at the top, with the frame that begins behind it

@@ -1,5 +1,5 @@
--- Laws of broken links, page by page.
-use Rattle.std.proofs.Common.{◌≡◌, ℕ, suc, List, [], ◌∷◌, ◌++◌, Bool, true, false, not, cond, refl, ap, sym, subst, ◌∙◌}
+-- Laws of broken links and images, page by page.
+use Rattle.std.proofs.Common.{◌≡◌, ℕ, suc, List, [], ◌∷◌, ◌++◌, Bool, false, not, cond, refl, ap, sym, subst, ◌∙◌}
 use Rattle.std.specs.Prelude.{Option, Some, None, bytes_eq, filter, map as mapped}
 use Rattle.std.specs.List.{AllByRecursion, flat_map}
 use Rattle.std.specs.List.Sorted.{IsStrictlySortedBy}
@@ -7,21 +7,26 @@ use Rattle.std.specs.Ordering.{ordering_reverse}
 use Rattle.std.specs.declared.cmp.Ordering.TheVariants.{Less}
 use Rattle.std.proofs.lemmas.Bool.{cond_both, false_from_ne_true}
 use Rattle.std.proofs.lemmas.Cmp.{nat_list_cmp_total}
+use Rattle.doc_media.specs.Media.{Beside}
+use Rattle.doc_media_links.specs.Images.{broken_images, image_by, image_fault, images_from, told_of}
+use Rattle.doc_media_links.specs.MediaLinks.{broken_beside, is_broken}
 use Rattle.doc_page_parts.proofs.Texts.{bytes_eq_itself, bytes_eq_true}
 use Rattle.doc_page_parts.specs.Pages.{is_empty}
-use Rattle.doc_links_pages.specs.Links.{broken, broken_by, broken_from as broken_on, fault_of}
+use Rattle.doc_page_parts.specs.declared.rendered.Rendered.{Rendered}
+use Rattle.doc_links_pages.specs.Links.{broken_by, broken_from as broken_on, fault_of}
+use Rattle.doc_links_pages.specs.PageLinks.{page_links}
 use Rattle.doc_links_pages.specs.declared.answers.Broken.{Broken}
 use Rattle.doc_links_pages.specs.declared.answers.Reason.{Reason}
 use Rattle.doc_links_pages.specs.declared.page_links.PageLinks.{PageLinks}
-use Rattle.doc_page_parts.specs.declared.rendered.Rendered.{Rendered}
+use Rattle.doc_resolve.specs.Links.{classify}
 use Rattle.doc_resolve.specs.declared.link_kind.LinkKind.{LinkKind}
 use Rattle.doc_store_readers.specs.Pages.{Page}
-use Rattle.doc_store_readers.specs.Sites.{View, goal_in}
+use Rattle.doc_store_readers.specs.Sites.{goal_in}
 use Rattle.doc_people.proofs.KeyLaws.{cmp, not_greater}
 use Rattle.doc_people.specs.BrokenLinks.{Group, by_source, onto_group}
-use Rattle.doc_people.specs.Laws.{GroupsArePages, broken_in, has_links}
-use Rattle.doc_people.specs.Sources.{links_in, linked_pages}
-use Rattle.doc_people.specs.Views.{Renders, paths}
+use Rattle.doc_people.specs.Laws.{GroupsArePages, has_links}
+use Rattle.doc_people.specs.Sources.{linked_pages}
+use Rattle.doc_people.specs.Views.{Renders, rendered_pages}
 
 -- ---- links of one page before those of others
 
@@ -95,17 +100,58 @@ own_links goals pages source place (link ∷ links) =
     one_link source place (fault_of goals pages link) (broken_on goals pages source (suc place) links)
     (own_links goals pages source (suc place) links)
 
+one_image : (source : List ℕ) (place : ℕ) (target : Option (List ℕ)) (rest : List Broken) → AllByRecursion (λ l. l.source ≡ source) rest
+    → AllByRecursion (λ l. l.source ≡ source) (image_by source place target ++ rest)
+one_image source place None rest all = all
+one_image source place (Some target) rest all = (refl, all)
+
+own_images_from : (media : Beside) (source : List ℕ) (place : ℕ) (images : List (List ℕ))
+    → AllByRecursion (λ l. l.source ≡ source) (images_from media source place images)
+own_images_from media source place [] = tt
+own_images_from media source place (dest ∷ images) =
+    one_image source place (image_fault media (classify source dest)) (images_from media source (suc place) images)
+    (own_images_from media source (suc place) images)
+
+own_images : (media : Beside) (source : List ℕ) (images : List (List ℕ))
+    → AllByRecursion (λ l. l.source ≡ source) (broken_images media source images)
+unfolding broken_images
+own_images None source images = tt
+own_images (Some held) source images = own_images_from (Some held) source 1 images
+
+own_filtered : (p : Broken → Bool) (source : List ℕ) (links : List Broken) → AllByRecursion (λ l. l.source ≡ source) links
+    → AllByRecursion (λ l. l.source ≡ source) (filter p links)
+own_filtered p source [] all = tt
+own_filtered p source (link ∷ links) all =
+    cond_both (p link) (link ∷ filter p links) (filter p links) (AllByRecursion (λ l. l.source ≡ source))
+    (λ _. (all.0, own_filtered p source links all.1)) (λ _. own_filtered p source links all.1)
+
+own_beside : (media : Beside) (source : List ℕ) (links : List Broken) → AllByRecursion (λ l. l.source ≡ source) links
+    → AllByRecursion (λ l. l.source ≡ source) (broken_beside media links)
+own_beside None source links all = all
+own_beside (Some held) source links all = own_filtered (is_broken (Some held)) source links all
+
+own_both : (source : List ℕ) (links images : List Broken) → AllByRecursion (λ l. l.source ≡ source) links
+    → AllByRecursion (λ l. l.source ≡ source) images → AllByRecursion (λ l. l.source ≡ source) (links ++ images)
+own_both source [] images links_own images_own = images_own
+own_both source (link ∷ links) images links_own images_own = (links_own.0, own_both source links images links_own.1 images_own)
+
+-- what is told of a page is told of no other
+own_told : (goals : List ℕ → Option (List ℕ)) (pages : List (List ℕ × PageLinks)) (media : Beside) (page : List ℕ × Rendered)
+    → AllByRecursion (λ l. l.source ≡ page.0) (told_of goals pages media page)
+own_told goals pages media page =
+    own_both page.0 (broken_beside media (broken_on goals pages page.0 1 (page_links page.0 page.1.pieces page.1.headings).links))
+    (broken_images media page.0 page.1.images)
+    (own_beside media page.0 _ (own_links goals pages page.0 1 (page_links page.0 page.1.pieces page.1.headings).links))
+    (own_images media page.0 page.1.images)
+
 same_paths : (render : Renders) (pages : List (List ℕ × Page))
-    → mapped (λ (page : List ℕ × PageLinks). page.0)
-    (mapped links_in (mapped (λ (page : List ℕ × Page). (page.0, render page.1.text)) pages))
+    → mapped (λ (page : List ℕ × Rendered). page.0) (mapped (λ (page : List ℕ × Page). (page.0, render page.1.text)) pages)
     ≡ mapped (λ (page : List ℕ × Page). page.0) pages
 same_paths render [] = refl
 same_paths render (page ∷ pages) = ap (λ ps. page.0 ∷ ps) (same_paths render pages)
 
 pub groups_are_pages : GroupsArePages
-unfolding broken
-groups_are_pages render view sorted =
-    grouped (List ℕ × PageLinks) (λ page. page.0)
-    (λ page. broken_on (goal_in view) (linked_pages render view) page.0 1 page.1.links)
-    (λ page. own_links (goal_in view) (linked_pages render view) page.0 1 page.1.links) (linked_pages render view)
+groups_are_pages render view media sorted =
+    grouped (List ℕ × Rendered) (λ page. page.0) (told_of (goal_in view) (linked_pages render view) media)
+    (own_told (goal_in view) (linked_pages render view) media) (rendered_pages render view)
     (subst (IsStrictlySortedBy cmp) (sym (same_paths render view.pages)) sorted)

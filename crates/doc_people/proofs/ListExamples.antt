@@ -1,5 +1,6 @@
 -- Examples: contents, backlinks and broken links.
 use Rattle.std.proofs.Common.{◌≡◌, [], ◌++◌, codes, refl}
+use Rattle.std.specs.Prelude.{None}
 use Rattle.doc_people.specs.BrokenLinks.{broken_body}
 use Rattle.doc_people.specs.Lists.{backlinks_body, contents_body}
 use Rattle.doc_people.proofs.Bodies.{bar, front}
@@ -37,7 +38,7 @@ contents_of_a_folder = refl
 
 -- broken links, by an owner
 broken_links :
-    broken_body demo defaults with_tools for_owner_moved []
+    broken_body demo defaults with_tools for_owner_moved None []
     ≡
     front (codes "Broken links") ++ bar
     ++ codes "<main id=\".main\">\n<h1>Broken links</h1>\n<p>A page that you may not read counts as none.</p>\n"
@@ -59,7 +60,7 @@ broken_links = refl
 
 -- where editing is off, no page can be begun there
 broken_links_without_tools :
-    broken_body demo defaults no_offers for_owner_moved []
+    broken_body demo defaults no_offers for_owner_moved None []
     ≡
     front (codes "Broken links") ++ bar
     ++ codes "<main id=\".main\">\n<h1>Broken links</h1>\n<p>A page that you may not read counts as none.</p>\n"

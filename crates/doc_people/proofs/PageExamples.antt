@@ -1,5 +1,6 @@
 -- Examples: pages for people that show a page of the site.
 use Rattle.std.proofs.Common.{◌≡◌, ◌++◌, codes, refl}
+use Rattle.std.specs.Prelude.{None}
 use Rattle.doc_people.specs.Pages.{page_body}
 use Rattle.doc_people.proofs.Bodies.{bar, front}
 use Rattle.doc_people.proofs.Computing.{page_words}
@@ -7,7 +8,7 @@ use Rattle.doc_people.proofs.Sites.{defaults, no_offers, with_tools, demo, for_a
 
 -- a page, with links that lead nowhere for its reader
 links_that_lead_nowhere :
-    page_body demo defaults no_offers for_ann (codes "b.md") (demo two_links)
+    page_body demo defaults no_offers for_ann None (codes "b.md") (demo two_links)
     ≡
     front (codes "b.md") ++ bar ++ codes "<div class=\"over\">\n<nav class=\"crumbs\" aria-label=\"Folders\">\n<ol>\n"
     ++ codes "<li><a href=\"/contents\">Home</a></li>\n</ol>\n</nav>\n</div>\n<main id=\".main\">\n<article>\n<h1>b.md</h1>\n"
@@ -20,7 +21,7 @@ links_that_lead_nowhere = refl
 
 -- the same by an owner, who sees where one leads
 a_link_that_leads_to_a_page :
-    page_body demo defaults with_tools for_owner (codes "b.md") (demo two_links)
+    page_body demo defaults with_tools for_owner None (codes "b.md") (demo two_links)
     ≡
     front (codes "b.md") ++ bar ++ codes "<div class=\"over\">\n<nav class=\"crumbs\" aria-label=\"Folders\">\n<ol>\n"
     ++ codes "<li><a href=\"/contents\">Home</a></li>\n</ol>\n</nav>\n<p class=\"tools\">\n"
@@ -38,7 +39,7 @@ a_link_that_leads_to_a_page = refl
 
 -- where editing is off, nothing of it is shown
 an_owners_page_without_tools :
-    page_body demo defaults no_offers for_owner (codes "b.md") (demo two_links)
+    page_body demo defaults no_offers for_owner None (codes "b.md") (demo two_links)
     ≡
     front (codes "b.md") ++ bar ++ codes "<div class=\"over\">\n<nav class=\"crumbs\" aria-label=\"Folders\">\n<ol>\n"
     ++ codes "<li><a href=\"/contents\">Home</a></li>\n</ol>\n</nav>\n</div>\n<main id=\".main\">\n<article>\n<h1>b.md</h1>\n"
@@ -53,7 +54,7 @@ an_owners_page_without_tools = refl
 
 -- a page in a folder, with headings, with a link to it, and with HTML of its own
 a_page_in_a_folder :
-    page_body demo defaults no_offers for_ann_later (codes "g/guide.md") (demo guide)
+    page_body demo defaults no_offers for_ann_later None (codes "g/guide.md") (demo guide)
     ≡
     front (codes "The guide") ++ bar ++ codes "<div class=\"over\">\n<nav class=\"crumbs\" aria-label=\"Folders\">\n<ol>\n"
     ++ codes "<li><a href=\"/contents\">Home</a></li>\n<li><a href=\"/contents/g/\">g</a></li>\n</ol>\n</nav>\n</div>\n"

@@ -2,18 +2,20 @@
 use Rattle.std.proofs.Common.{◌≡◌, ℕ, List, [], ◌∷◌, ◌++◌, length, map as mapped, refl}
 use Rattle.std.specs.Prelude.{Some, None, codes, decimal}
 use Rattle.std.specs.List.{flat_map, range_with_len}
+use Rattle.doc_media.specs.Media.{Beside}
 use Rattle.doc_page_parts.specs.declared.rendered.Heading.{Heading}
 use Rattle.doc_page_parts.specs.declared.rendered.Piece.{Piece}
 use Rattle.doc_page_parts.specs.declared.rendered.Piece.TheVariants.{Link}
 use Rattle.doc_store_readers.specs.Sites.{View}
 use Rattle.doc_people.specs.BrokenLinks.{broken_from, broken_main, by_source}
+use Rattle.doc_people.specs.KeptPaths.{begun_at}
 use Rattle.doc_people.specs.Lists.{backlinks_main, contents_from, contents_main, pager, sources_from}
-use Rattle.doc_people.specs.Pages.{heading_line, linked_from, listed_headings, on_this_page, source_item}
+use Rattle.doc_people.specs.Pages.{article, heading_line, linked_from, listed_headings, on_this_page, source_item}
 use Rattle.doc_people.specs.Sources.{broken_links, sources_of}
 use Rattle.doc_people.specs.Statuses.{notice}
 use Rattle.doc_people.specs.Views.{Renders}
-use Rattle.doc_people.proofs.Computing.{page_words}
-use Rattle.doc_people.proofs.Sites.{no_offers, demo, for_ann, for_owner, titled, view_of_paths}
+use Rattle.doc_people.proofs.Computing.{media_words, page_words}
+use Rattle.doc_people.proofs.Sites.{no_offers, with_tools, demo, for_ann, for_owner, titled, view_of_paths}
 
 -- ---- headings
 
@@ -142,12 +144,13 @@ linking text = record {
   pieces = to (codes "b.md#caf%C3%A9 <") ∷ to (codes "b.md#Top") ∷ to (codes "a%2Fb.md") ∷ to (codes "https://h/x") ∷ [];
   headings = heading 1 (codes "Top") ∷ [];
   texts = [];
+  images = [];
 }
 
 abbrev linked_pages : View
 linked_pages = view_of_paths (codes "b.md" ∷ [])
 
-reasons : broken_main linking no_offers linked_pages [] (by_source (broken_from [] (broken_links linking linked_pages)))
+reasons : broken_main linking no_offers linked_pages None [] (by_source (broken_from [] (broken_links linking linked_pages None)))
     ≡ codes "<h1>Broken links</h1>\n<p>A page that you may not read counts as none.</p>\n<table class=\"broken\">\n<thead>\n"
     ++ codes "<tr><th scope=\"col\">Link</th><th scope=\"col\">Leads to</th><th scope=\"col\">What is wrong</th></tr>\n</thead>\n"
     ++ codes "<tbody>\n<tr><th colspan=\"3\" scope=\"rowgroup\"><a href=\"/page/b.md\">Top</a> <span class=\"path\">b.md</span></th></tr>\n"
@@ -157,11 +160,106 @@ reasons : broken_main linking no_offers linked_pages [] (by_source (broken_from 
 unfolding page_words
 reasons = refl
 
-no_broken_links : broken_main demo no_offers (view_of_paths []) [] (by_source (broken_from [] (broken_links demo (view_of_paths []))))
+no_broken_links : broken_main demo no_offers (view_of_paths []) None [] (by_source (broken_from [] (broken_links demo (view_of_paths []) None)))
     ≡ codes "<h1>Broken links</h1>\n<p>A page that you may not read counts as none.</p>\n"
     ++ codes "<p>No link is broken on the pages that you may read.</p>\n"
 unfolding page_words
 no_broken_links = refl
+
+-- ---- media
+
+-- links to a medium that is seen, to one that isn't, and to a page that isn't there
+abbrev with_media : Renders
+with_media text = record {
+  pieces = to (codes "pic.png#x=2") ∷ to (codes "z.ZIP") ∷ to (codes "no.md") ∷ [];
+  headings = heading 1 (codes "Top") ∷ [];
+  texts = [];
+  images = [];
+}
+
+abbrev pictures : Beside
+pictures = Some ((codes "pic.png", record { groups = []; text = [] }) ∷ [])
+
+-- a page begins at no path that is kept for media
+no_page_begins_at_a_medium :
+    broken_main with_media with_tools linked_pages pictures []
+    (by_source (broken_from [] (broken_links with_media linked_pages pictures)))
+    ≡ codes "<h1>Broken links</h1>\n<p>A page that you may not read counts as none.</p>\n<table class=\"broken\">\n<thead>\n"
+    ++ codes "<tr><th scope=\"col\">Link</th><th scope=\"col\">Leads to</th><th scope=\"col\">What is wrong</th></tr>\n</thead>\n"
+    ++ codes "<tbody>\n<tr><th colspan=\"3\" scope=\"rowgroup\"><a href=\"/page/b.md\">Top</a> <span class=\"path\">b.md</span></th></tr>\n"
+    ++ codes "<tr><td>2</td><td><code>z.ZIP</code></td><td>no such page</td></tr>\n"
+    ++ codes "<tr><td>3</td><td><code>no.md</code> <a href=\"/edit/no.md\">New page</a></td><td>no such page</td></tr>\n"
+    ++ codes "</tbody>\n</table>\n"
+unfolding media_words
+no_page_begins_at_a_medium = refl
+
+-- where there are none, each is a page's path
+pages_begin_where_no_media_are :
+    broken_main with_media with_tools linked_pages None []
+    (by_source (broken_from (codes "b") (broken_links with_media linked_pages None)))
+    ≡ codes "<h1>Broken links</h1>\n<p>A page that you may not read counts as none.</p>\n<table class=\"broken\">\n<thead>\n"
+    ++ codes "<tr><th scope=\"col\">Link</th><th scope=\"col\">Leads to</th><th scope=\"col\">What is wrong</th></tr>\n</thead>\n"
+    ++ codes "<tbody>\n<tr><th colspan=\"3\" scope=\"rowgroup\"><a href=\"/page/b.md\">Top</a> <span class=\"path\">b.md</span></th></tr>\n"
+    ++ codes "<tr><td>1</td><td><code>pic.png</code> <a href=\"/edit/pic.png\">New page</a></td><td>no such page</td></tr>\n"
+    ++ codes "<tr><td>2</td><td><code>z.ZIP</code> <a href=\"/edit/z.ZIP\">New page</a></td><td>no such page</td></tr>\n"
+    ++ codes "<tr><td>3</td><td><code>no.md</code> <a href=\"/edit/no.md\">New page</a></td><td>no such page</td></tr>\n"
+    ++ codes "</tbody>\n</table>\n"
+unfolding media_words
+pages_begin_where_no_media_are = refl
+
+-- beside a link, the pictures of a page in a folder: one that is seen, one that isn't, one that writes no path, one out of the site, and one
+-- whose path is a page's
+abbrev with_images : Renders
+with_images text = record {
+  pieces = to (codes "no.md") ∷ [];
+  headings = [];
+  texts = [];
+  images = codes "../pic.png" ∷ codes "z.png" ∷ codes "a%2Fb.png" ∷ codes "https://h/z.png" ∷ codes "b.md" ∷ [];
+}
+
+abbrev page_in_folder : View
+page_in_folder = view_of_paths (codes "guide/b.md" ∷ [])
+
+-- behind the links of a page stand its pictures that show nothing, counted by themselves; no page begins there
+pictures_that_show_nothing :
+    broken_main with_images with_tools page_in_folder pictures []
+    (by_source (broken_from [] (broken_links with_images page_in_folder pictures)))
+    ≡ codes "<h1>Broken links</h1>\n<p>A page that you may not read counts as none.</p>\n<table class=\"broken\">\n<thead>\n"
+    ++ codes "<tr><th scope=\"col\">Link</th><th scope=\"col\">Leads to</th><th scope=\"col\">What is wrong</th></tr>\n</thead>\n"
+    ++ codes "<tbody>\n<tr><th colspan=\"3\" scope=\"rowgroup\"><a href=\"/page/guide/b.md\">b.md</a>"
+    ++ codes " <span class=\"path\">guide/b.md</span></th></tr>\n"
+    ++ codes "<tr><td>1</td><td><code>guide/no.md</code> <a href=\"/edit/guide/no.md\">New page</a></td><td>no such page</td></tr>\n"
+    ++ codes "<tr><td>2</td><td><code>guide/z.png</code></td><td>no such picture</td></tr>\n"
+    ++ codes "<tr><td>3</td><td>" ++ (0xE2 ∷ 0x80 ∷ 0x93 ∷ []) ++ codes "</td><td>no such picture</td></tr>\n"
+    ++ codes "<tr><td>5</td><td><code>guide/b.md</code></td><td>no such picture</td></tr>\n" ++ codes "</tbody>\n</table>\n"
+unfolding media_words
+pictures_that_show_nothing = refl
+
+-- where there are no media at all, none is looked at
+pictures_where_no_media_are :
+    broken_main with_images no_offers page_in_folder None []
+    (by_source (broken_from [] (broken_links with_images page_in_folder None)))
+    ≡ codes "<h1>Broken links</h1>\n<p>A page that you may not read counts as none.</p>\n<table class=\"broken\">\n<thead>\n"
+    ++ codes "<tr><th scope=\"col\">Link</th><th scope=\"col\">Leads to</th><th scope=\"col\">What is wrong</th></tr>\n</thead>\n"
+    ++ codes "<tbody>\n<tr><th colspan=\"3\" scope=\"rowgroup\"><a href=\"/page/guide/b.md\">b.md</a>"
+    ++ codes " <span class=\"path\">guide/b.md</span></th></tr>\n"
+    ++ codes "<tr><td>1</td><td><code>guide/no.md</code></td><td>no such page</td></tr>\n</tbody>\n</table>\n"
+unfolding media_words
+pictures_where_no_media_are = refl
+
+-- a page begins at a path whose name is no medium's, and at each where there are no media at all
+pages_begin_at :
+    (begun_at page_in_folder pictures (codes "guide/new.svg") ≡ None)
+    × (begun_at page_in_folder pictures (codes "guide/new.md") ≡ Some (codes "guide/new.md"))
+    × (begun_at page_in_folder None (codes "guide/new.svg") ≡ Some (codes "guide/new.svg"))
+unfolding media_words
+pages_begin_at = (refl, refl, refl)
+
+-- a page shows a link to a medium that is seen, as it is written, and none to one that isn't
+links_to_media : article linked_pages pictures (codes "b.md") (with_media [])
+    ≡ codes "<article>\n<a href=\"/page/pic.png#x=2\"><a class=\"missing\"><a class=\"missing\"></article>\n"
+unfolding media_words
+links_to_media = refl
 
 -- ---- statuses
 

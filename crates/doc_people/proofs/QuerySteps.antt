@@ -6,7 +6,6 @@ use Rattle.std.specs.FinMap as map
 use Rattle.std.specs.Ordering.{nat_cmp}
 use Rattle.std.proofs.lemmas.Cmp.{nat_list_cmp_total}
 use Rattle.doc_words_search.specs.Words.{checked, count, different, query_of, words_of}
-use Rattle.doc_people.specs.Terms.{terms_with}
 use Rattle.doc_people.specs.declared.term.Term.{Term}
 use Rattle.doc_people.specs.declared.term.Term.TheVariants as terms
 

@@ -41,6 +41,7 @@ titled text = record {
       ∷ record { level = 2; anchor = codes "f--co"; text = codes "F & co" } ∷ []
       else [];
   texts = [];
+  images = [];
 }
 
 -- ---- the demonstration site, and two pages that are put later
@@ -53,7 +54,7 @@ abbrev hello : List ℕ
 hello = codes "Hello\n"
 
 abbrev hello_page : Rendered
-hello_page = record { pieces = Html (codes "<p>Hello</p>\n") ∷ []; headings = []; texts = codes "Hello" ∷ [] }
+hello_page = record { pieces = Html (codes "<p>Hello</p>\n") ∷ []; headings = []; texts = codes "Hello" ∷ []; images = [] }
 
 abbrev pub two_links : List ℕ
 two_links = codes "[c](c.md) [d](d.md)\n"
@@ -64,6 +65,7 @@ two_links_page = record {
       Html (codes "<p>") ∷ to (codes "c.md") ∷ Html (codes "c</a> ") ∷ to (codes "d.md") ∷ Html (codes "d</a></p>\n") ∷ [];
   headings = [];
   texts = codes "c d" ∷ [];
+  images = [];
 }
 
 abbrev one_twice : List ℕ
@@ -75,6 +77,7 @@ one_twice_page = record {
       Html (codes "<p>See ") ∷ to (codes "b.md") ∷ Html (codes "b</a>, ") ∷ to (codes "b.md") ∷ Html (codes "b</a>.</p>\n") ∷ [];
   headings = [];
   texts = codes "See b, b." ∷ [];
+  images = [];
 }
 
 abbrev how : List ℕ
@@ -85,6 +88,7 @@ how_page = record {
   pieces = Html (codes "<p>") ∷ to (codes "g/guide.md") ∷ Html (codes "How</a></p>\n") ∷ [];
   headings = [];
   texts = codes "How" ∷ [];
+  images = [];
 }
 
 abbrev pub guide : List ℕ
@@ -99,6 +103,7 @@ guide_page = record {
       record { level = 1; anchor = codes "the-guide"; text = codes "The guide" }
       ∷ record { level = 2; anchor = codes "use"; text = codes "Use" } ∷ [];
   texts = codes "The guide" ∷ codes "See a." ∷ codes "Use" ∷ codes "On kiwis & plums." ∷ [];
+  images = [];
 }
 
 -- what a renderer makes of these texts

@@ -36,7 +36,7 @@ short_last_word = exact_are (codes "plum" ∷ codes "on" ∷ codes "on" ∷ code
 -- ---- hits
 
 abbrev texts : List (List ℕ) → Rendered
-texts them = record { pieces = []; headings = []; texts = them }
+texts them = record { pieces = []; headings = []; texts = them; images = [] }
 
 -- the title of `r.md` has the word, and so has the path of `kiwi.md`; `s.md` has no word
 abbrev five : List (List ℕ × Rendered)

@@ -1,16 +1,17 @@
 -- Laws of the definitions; the proofs are in proofs/.
-use Rattle.std.specs.Prelude.{◌≡◌, ℕ, List, [], ◌∷◌, ◌++◌, Bool, true, false, not, ◌||◌, filter, map as mapped, nat_lt, codes, Option, sum_by, if◌then◌else◌}
+use Rattle.std.specs.Prelude.{◌≡◌, ℕ, List, [], ◌∷◌, ◌++◌, Bool, true, false, not, ◌||◌, filter, map as mapped, nat_lt, codes, Option}
+use Rattle.std.specs.Prelude.{sum_by, if◌then◌else◌}
 use Rattle.std.specs.Cmp.Lexicographic.{slice_cmp}
 use Rattle.std.specs.FinMap as map
 use Rattle.std.specs.List.{list_all, list_any}
 use Rattle.std.specs.List.Sorted.{IsStrictlySortedBy}
 use Rattle.std.specs.Ordering.{nat_cmp}
 use Rattle.std.specs.Str.{is_utf8}
+use Rattle.doc_media.specs.Media.{Beside}
+use Rattle.doc_media_links.specs.Images.{told_of}
 use Rattle.doc_page_parts.specs.declared.rendered.Rendered.{Rendered}
 use Rattle.doc_page_encoding.specs.Encoding.{encoded}
 use Rattle.doc_page_parts.specs.Pages.{is_empty}
-use Rattle.doc_links_pages.specs.Links.{broken_from as broken_on}
-use Rattle.doc_links_pages.specs.declared.page_links.PageLinks.{PageLinks}
 use Rattle.doc_store_readers.specs.Sites.{Site, View, goal_in, view_of}
 use Rattle.doc_store_readers.specs.declared.reader.Reader.{Reader}
 use Rattle.doc_words_search.specs.Words.{capped, word_counts}
@@ -21,7 +22,7 @@ use Rattle.doc_people.specs.Inert.{begins_in_any_case, has_apostrophe, inert}
 use Rattle.doc_people.specs.Sources.{broken_links, linked_pages}
 use Rattle.doc_people.specs.Terms.{meets}
 use Rattle.doc_people.specs.declared.term.Term.{Term}
-use Rattle.doc_people.specs.Views.{Renders, paths}
+use Rattle.doc_people.specs.Views.{Renders, paths, rendered_pages}
 
 -- the word stands somewhere in the text, in any case of ASCII letters
 abbrev pub holds_in_any_case : List ℕ → List ℕ → Bool
@@ -69,15 +70,16 @@ WrittenAnchorsAreRead =
     (path anchor : List ℕ) → list_any is_hash path ≡ false → list_all (λ b. nat_lt b 256) anchor ≡ true → is_utf8 anchor ≡ true
     → written_anchor (path ++ codes "#" ++ encoded anchor) ≡ anchor
 
--- a page with its broken links
-abbrev pub broken_in : Renders → View → List ℕ × PageLinks → Group
-broken_in render view page = (page.0, broken_on (goal_in view) (linked_pages render view) page.0 1 page.1.links)
+-- a page with its broken links and images
+abbrev pub broken_in : Renders → View → Beside → List ℕ × Rendered → Group
+broken_in render view media page =
+    (page.0, told_of (goal_in view) (linked_pages render view) media page)
 
 abbrev pub has_links : Group → Bool
 has_links group = not (is_empty group.1)
 
--- where the paths of a view rise, the pages with broken links are listed each once, with all of its broken links
+-- where the paths of a view rise, the pages with broken links or images are listed each once, with all of these
 abbrev pub GroupsArePages : Type 0
 GroupsArePages =
-    (render : Renders) (view : View) → IsStrictlySortedBy (slice_cmp nat_cmp) (paths view)
-    → by_source (broken_links render view) ≡ filter has_links (mapped (broken_in render view) (linked_pages render view))
+    (render : Renders) (view : View) (media : Beside) → IsStrictlySortedBy (slice_cmp nat_cmp) (paths view)
+    → by_source (broken_links render view media) ≡ filter has_links (mapped (broken_in render view media) (rendered_pages render view))

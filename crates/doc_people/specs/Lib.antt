@@ -9,6 +9,7 @@ pub mod Shell
 pub mod Statuses
 pub mod Sources
 pub mod Pages
+pub mod KeptPaths
 pub mod Lists
 pub mod BrokenLinks
 pub mod Terms

@@ -7,7 +7,8 @@ use Rattle.doc_page_parts.specs.Pages.{filled, is_empty}
 use Rattle.doc_page_parts.specs.declared.rendered.Heading.{Heading}
 use Rattle.doc_page_parts.specs.declared.rendered.Rendered.{Rendered}
 use Rattle.doc_page_encoding.specs.Encoding.{encoded, encoded_path}
-use Rattle.doc_resolve.specs.Hrefs.{shown}
+use Rattle.doc_media.specs.Media.{Beside}
+use Rattle.doc_media_links.specs.MediaLinks.{shown_beside}
 use Rattle.doc_store_readers.specs.Sites.{View, goal_in}
 use Rattle.doc_people.specs.Folders.{first_text, label, page_href, short, title_by}
 use Rattle.doc_people.specs.Inert.{inert}
@@ -38,14 +39,14 @@ heading_by path (Some text) = codes "<h1 class=\"sr\">" ++ escaped text ++ codes
 abbrev pub heading_line : List ℕ → List Heading → List ℕ
 heading_line path headings = if list_any is_main headings then [] else heading_by path (first_text headings)
 
--- the page's own HTML, with its links as the reader sees them
-abbrev pub body : View → List ℕ → Rendered → List ℕ
-body view path page = inert (filled (shown (goal_in view) path) page)
+-- the page's own HTML, with its links as the reader sees them, to pages and to media
+abbrev pub body : View → Beside → List ℕ → Rendered → List ℕ
+body view media path page = inert (filled (shown_beside (goal_in view) media path) page)
 
 -- the page, between its tags
-abbrev pub article : View → List ℕ → Rendered → List ℕ
-article view path page =
-    codes "<article>\n" ++ heading_line path page.headings ++ body view path page ++ codes "</article>\n"
+abbrev pub article : View → Beside → List ℕ → Rendered → List ℕ
+article view media path page =
+    codes "<article>\n" ++ heading_line path page.headings ++ body view media path page ++ codes "</article>\n"
 
 -- ---- what stands beside: the headings of the page
 
@@ -101,7 +102,7 @@ beside render view path page =
 -- ---- the page
 
 -- the page at this path, of which the renderer makes this
-unfoldable pub page_body : Renders → Browse → Offers → View → List ℕ → Rendered → List ℕ
-page_body render settings offers view path page =
+unfoldable pub page_body : Renders → Browse → Offers → View → Beside → List ℕ → Rendered → List ℕ
+page_body render settings offers view media path page =
     shell render settings offers view (short (title_by path (first_text page.headings))) (Some path)
-    (article view path page) (beside render view path page)
+    (article view media path page) (beside render view path page)

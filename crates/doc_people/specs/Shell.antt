@@ -15,7 +15,7 @@ middle_dot = codes " " ++ 0xC2 ∷ 0xB7 ∷ codes " "
 
 -- the address of the style sheet, with its number, which is raised with each change of it
 abbrev pub style_sheet_href : List ℕ
-style_sheet_href = codes "/style.css?4"
+style_sheet_href = codes "/style.css?5"
 
 -- what stands before the language
 abbrev pub head_start : List ℕ

@@ -51,7 +51,7 @@ pub fn written_anchors_are_read()
     ensures { WrittenAnchorsAreRead }
 {}
 
-/// Where the paths of a view rise, the pages with broken links are listed each once, with all of its broken links.
+/// Where the paths of a view rise, the pages with broken links or images are listed each once, with all of these.
 #[tactic(auto, using(crate::proofs::GroupLaws::groups_are_pages))]
 pub fn groups_are_pages()
     ensures { GroupsArePages }

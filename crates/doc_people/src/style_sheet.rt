@@ -125,6 +125,8 @@ main h2 { font-size: 1.4rem; padding-bottom: 0.25rem; border-bottom: 1px solid v
 main h3 { font-size: 1.15rem; }
 main h4, main h5, main h6 { font-size: 1rem; }
 main img { max-width: 100%; height: auto; }
+figure { margin: 1.5rem 0; }
+figcaption { margin-top: 0.4rem; color: var(--faint); font-size: 0.9rem; }
 main hr { margin: 2rem 0; border: 0; border-top: 1px solid var(--line); }
 main li + li { margin-top: 0.2rem; }
 code, pre, kbd { font: 0.9em/1.5 ui-monospace, SFMono-Regular, Menlo, Consolas, "DejaVu Sans Mono", monospace; }

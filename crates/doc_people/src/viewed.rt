@@ -2,11 +2,13 @@
 
 ghost use Rattle.std.specs.Prelude.{◌≡◌, not, Some, IfOk, IfSome, filter, length, option_copied, option_map, take};
 ghost use Rattle.doc_page_parts.specs.Pages.{filled};
-ghost use Rattle.doc_resolve.specs.Hrefs.{shown};
+ghost use Rattle.doc_media.specs.Media.{Beside};
+ghost use Rattle.doc_media_links.specs.MediaLinks.{shown_beside};
 ghost use Rattle.doc_store_readers.specs.Pages.{Page};
 ghost use Rattle.doc_store_readers.specs.Sites.{View, goal_in, page_at};
 ghost use Rattle.doc_people.specs.Folders.{keys};
 ghost use Rattle.doc_people.specs.Hits.{hits};
+ghost use Rattle.doc_people.specs.KeptPaths.{is_kept};
 ghost use Rattle.doc_people.specs.Lists.{contents_from, sources_from};
 ghost use Rattle.doc_people.specs.Navigation.{is_before, last_ones};
 ghost use Rattle.doc_people.specs.Pages.{page_body};
@@ -32,12 +34,14 @@ pub struct Found {
     pub best: List<Hit>,
 }
 
-/// What a reader sees of a site, asked part by part. Contracts see the reader's view, and what a renderer makes of each text: each
-/// answer is of these alone.
+/// What a reader sees of a site, asked part by part. Contracts see the reader's view, what a renderer makes of each text, and the media
+/// that the reader sees: each answer is of these alone.
 pub trait Viewed {
     ghost view: { Self → View };
 
     ghost render: { Self → Renders };
+
+    ghost media: { Self → Beside };
 
     /// Whether a page is seen at a path. A text that is no path has none.
     fn sees(&self, path: &str) -> Result<bool, Memory>
@@ -52,10 +56,14 @@ pub trait Viewed {
         ensures { IfOk result (λ headings. option_copied headings ≡ option_map
             (λ page. page.headings) (rendered_at (render self.now) (view self.now) path.now)) };
 
+    /// Whether a path is kept for media: no page begins there.
+    fn is_kept(&self, path: &Path) -> bool
+        ensures { result ≡ is_kept (view self.now) (media self.now) path.now };
+
     /// The HTML of the page at a path, where one is seen there, with its links as the reader sees them.
     fn html(&self, path: &Path) -> Result<Option<Text>, Memory>
         ensures { IfOk result (λ html. html ≡ option_map
-            (filled (shown (goal_in (view self.now)) path.now))
+            (filled (shown_beside (goal_in (view self.now)) (media self.now) path.now))
             (rendered_at (render self.now) (view self.now) path.now)) };
 
     /// The plain texts of the blocks of the page at a path, where one is seen there.
@@ -84,11 +92,11 @@ pub trait Viewed {
             → IfOk result (λ found. found ≡ take most
             (sources_from (render self.now) (view self.now) path.now from.now)) };
 
-    /// The broken links of the pages from a text on, page by page.
+    /// The broken links of the pages from a text on, page by page, and behind those of each page its images that show nothing.
     fn broken_from(&self, from: &str) -> Result<List<Broken>, Memory>
         ensures { IfOk result (λ found. found ≡ filter
             (λ link. not (is_before link.source from.now))
-            (broken_links (render self.now) (view self.now))) };
+            (broken_links (render self.now) (view self.now) (media self.now))) };
 
     /// What these terms find, and of that the first so many.
     fn hits(&self, terms: &[Term], most: usize) -> Result<Found, Memory>
@@ -101,6 +109,7 @@ pub trait Viewed {
     /// The page for people that shows the page at a path, as it was made for these settings and offers, where it is kept.
     fn kept_body(&self, browse: &Browse, offers: Offers, path: &Path) -> Option<&Text>
         ensures { IfSome result (λ text. option_map
-            (page_body (render self.now) browse.now offers (view self.now) path.now)
+            (page_body (render self.now) browse.now offers (view self.now) (media self.now)
+            path.now)
             (rendered_at (render self.now) (view self.now) path.now) ≡ Some text.now) };
 }

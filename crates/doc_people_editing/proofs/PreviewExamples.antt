@@ -17,6 +17,7 @@ with_script = record {
       Html (codes "<p>") ∷ Link (record { dest = codes "c.md"; title = None }) ∷ Html (codes "c</a> <script>x</script></p>\n") ∷ [];
   headings = [];
   texts = codes "c" ∷ [];
+  images = [];
 }
 
 abbrev its_preview : List ℕ

@@ -18,7 +18,7 @@ use Rattle.doc_people_editing.proofs.TagLaws.{Passes, escaped_texts_begin_no_tag
 
 pub previews_show_the_page : PreviewsShowThePage
 unfolding preview_main
-previews_show_the_page view path page = refl
+previews_show_the_page view media path page = refl
 
 -- a name that the tags of a preview haven't
 module _ (name : List ℕ) (plain : list_any (eq_ignore_ascii_case 60) name ≡ false) (starts : Passes name (codes "<article>\n"))

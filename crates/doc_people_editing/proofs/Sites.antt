@@ -21,7 +21,7 @@ with_tools = record { sign_in = false; tools = true }
 
 -- pages without headings
 abbrev pub untitled : Renders
-untitled text = record { pieces = []; headings = []; texts = [] }
+untitled text = record { pieces = []; headings = []; texts = []; images = [] }
 
 abbrev entry : List ℕ → List ℕ × Page
 entry path = (path, record { groups = []; text = path })
@@ -38,7 +38,7 @@ front title =
     ++ codes "<meta name=\"color-scheme\" content=\"light dark\">\n<title>"
     ++ title
     ++ codes " " ++ (0xC2 ∷ 0xB7 ∷ [])
-    ++ codes " Handbook</title>\n<link rel=\"icon\" href=\"data:,\">\n<link rel=\"stylesheet\" href=\"/style.css?4\">\n"
+    ++ codes " Handbook</title>\n<link rel=\"icon\" href=\"data:,\">\n<link rel=\"stylesheet\" href=\"/style.css?5\">\n"
     ++ codes "</head>\n<body>\n"
 
 -- and the bar at the top, with the frame that begins behind it

@@ -5,7 +5,8 @@ use Rattle.doc_page_parts.specs.Escaping.{escaped}
 use Rattle.doc_page_parts.specs.Pages.{filled}
 use Rattle.doc_page_parts.specs.declared.rendered.Heading.{Heading}
 use Rattle.doc_page_parts.specs.declared.rendered.Rendered.{Rendered}
-use Rattle.doc_resolve.specs.Hrefs.{shown}
+use Rattle.doc_media.specs.Media.{Beside}
+use Rattle.doc_media_links.specs.MediaLinks.{shown_beside}
 use Rattle.doc_store_readers.specs.Sites.{View, goal_in}
 use Rattle.doc_people.specs.Laws.{holds_in_any_case}
 use Rattle.doc_people.specs.Pages.{article}
@@ -49,8 +50,8 @@ NewPagesHaveOneScript =
 -- what is previewed is what people see of the page, between its tags, once it has the text
 abbrev pub PreviewsShowThePage : Type 0
 PreviewsShowThePage =
-    (view : View) (path : List ℕ) (page : Rendered)
-    → preview_main path page.headings (filled (shown (goal_in view) path) page) ≡ article view path page
+    (view : View) (media : Beside) (path : List ℕ) (page : Rendered)
+    → preview_main path page.headings (filled (shown_beside (goal_in view) media path) page) ≡ article view media path page
 
 -- a preview begins no form
 abbrev pub PreviewsHaveNoForms : Type 0

@@ -7,10 +7,12 @@ use Rattle.doc_store_readers.specs.Sites.{View}
 use Rattle.doc_people.specs.BrokenLinks.{broken_body, broken_from, broken_main, by_source}
 use Rattle.doc_people.specs.Folders.{contents_href, folder_of, label, page_href}
 use Rattle.doc_people.specs.Lines.{link}
-use Rattle.doc_people.specs.Lists.{backlink_line, backlinks_body, backlinks_main, contents_body, contents_from, contents_line, contents_main}
+use Rattle.doc_people.specs.Lists.{backlink_line, backlinks_body, backlinks_main, contents_body, contents_from, contents_line}
+use Rattle.doc_people.specs.Lists.{contents_main}
 use Rattle.doc_people.specs.Lists.{contents_title, list_or_note, note_from, pager, sources_from}
 use Rattle.doc_people.specs.Pages.{backlinks_href}
 use Rattle.doc_people.specs.Shell.{shell}
+use Rattle.doc_media.specs.Media.{Beside}
 use Rattle.doc_people.specs.Sources.{broken_links}
 use Rattle.doc_people.specs.Views.{Renders}
 use Rattle.doc_people.specs.declared.settings.Browse.{Browse}
@@ -80,10 +82,11 @@ module _ (render : Renders) (view : View) where
         ∙ ap (λ t. shell render settings offers view (codes "Pages that link to " ++ label render view path) (Some (folder_of path)) t [])
         (main_is ∙ ap (backlinks_main render view path from) sources_are ∙ backlinks_shown path from (sources_from render view path from))
 
-    pub broken_made : (from main : List ℕ) (links : List Broken) → links ≡ broken_from from (broken_links render view)
-        → main ≡ broken_main render offers view from (by_source links)
-        → shell render settings offers view (codes "Broken links") None main [] ≡ broken_body render settings offers view from
+    pub broken_made : (media : Beside) (from main : List ℕ) (links : List Broken)
+        → links ≡ broken_from from (broken_links render view media)
+        → main ≡ broken_main render offers view media from (by_source links)
+        → shell render settings offers view (codes "Broken links") None main [] ≡ broken_body render settings offers view media from
     unfolding broken_body
-    broken_made from main links links_are main_is =
+    broken_made media from main links links_are main_is =
         ap (λ t. shell render settings offers view (codes "Broken links") None t [])
-        (main_is ∙ ap (λ ls. broken_main render offers view from (by_source ls)) links_are)
+        (main_is ∙ ap (λ ls. broken_main render offers view media from (by_source ls)) links_are)

@@ -8,6 +8,7 @@ use Rattle.std.proofs.lemmas.Bool.Decides.{nat_tests}
 use Rattle.std.proofs.lemmas.List.{drop_all, drop_more, flat_map_more, take_all, take_more}
 use Rattle.doc_page_parts.proofs.Texts.{bytes_eq_itself, bytes_eq_true}
 use Rattle.doc_links_pages.specs.declared.answers.Broken.{Broken}
+use Rattle.doc_media.specs.Media.{Beside}
 use Rattle.doc_store_readers.specs.Sites.{View}
 use Rattle.doc_people.specs.BrokenLinks.{Group, broken_group, broken_head, by_source, more_row, onto_group, table_or_note}
 use Rattle.doc_people.specs.Views.{Renders}
@@ -100,16 +101,16 @@ none_left all k (x ∷ xs) none left le = cc
 
 -- ---- the table, and the page behind it
 
-pub some_groups : (render : Renders) (offers : Offers) (view : View) (note : List ℕ) (links : List Broken) → length links ≢ 0
-    → table_or_note render offers view note (take 50 (by_source links))
-    ≡ broken_head ++ flat_map (broken_group render offers view) (take 50 (by_source links)) ++ codes "</table>\n"
-some_groups render offers view note [] some = absurd (some refl)
-some_groups render offers view note (x ∷ xs) some =
+pub some_groups : (render : Renders) (offers : Offers) (view : View) (media : Beside) (note : List ℕ) (links : List Broken)
+    → length links ≢ 0 → table_or_note render offers view media note (take 50 (by_source links))
+    ≡ broken_head ++ flat_map (broken_group render offers view media) (take 50 (by_source links)) ++ codes "</table>\n"
+some_groups render offers view media note [] some = absurd (some refl)
+some_groups render offers view media note (x ∷ xs) some =
     let is = first_group x xs in
     let group : Group = (x.source, x ∷ take (prefix_len (is_of x.source) xs) xs) in
     let behind : List Group = by_source (drop (prefix_len (is_of x.source) xs) xs) in
-    ap (λ groups. table_or_note render offers view note (take 50 groups)) is
-    ∙ ap (λ groups. broken_head ++ flat_map (broken_group render offers view) (take 50 groups) ++ codes "</table>\n") (sym is)
+    ap (λ groups. table_or_note render offers view media note (take 50 groups)) is
+    ∙ ap (λ groups. broken_head ++ flat_map (broken_group render offers view media) (take 50 groups) ++ codes "</table>\n") (sym is)
 
 front_source : (links : List Broken)
     → option_map (λ (link : Broken). link.source) (slice_get links 0)

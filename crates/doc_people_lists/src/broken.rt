@@ -1,11 +1,12 @@
-//! Broken links, page by page.
+//! Broken links and images that show nothing, page by page.
 
-ghost use Rattle.std.specs.Prelude.{◌≡◌, ◌++◌, ◌-◌, codes, decimal, drop, length, option_copied, option_map, slice_get, string_bytes, take, IfOk, OnOk, Some};
+ghost use Rattle.std.specs.Prelude.{◌≡◌, ◌++◌, ◌-◌, ◌&&◌, codes, decimal, drop, length, option_copied, option_map, slice_get, string_bytes, take, IfOk, OnOk, Some};
 ghost use Rattle.std.specs.List.{after_first, before_first, flat_map};
 ghost use Rattle.doc_page_parts.specs.Escaping.{escaped};
 ghost use Rattle.doc_resolve.specs.Links.{decoded_text};
-ghost use Rattle.doc_people.specs.BrokenLinks.{begin_link, broken_body, broken_group, broken_head, broken_main, broken_row, by_source, goal_cell, goal_href, is_hash};
-ghost use Rattle.doc_people.specs.BrokenLinks.{missing_heading, more_row, reason_text, source_row, table_or_note, written_anchor, written_path};
+ghost use Rattle.doc_people.specs.BrokenLinks.{begin_link, broken_body, broken_group, broken_head, broken_main, broken_row, by_source, dash, goal_cell, goal_href, image_cell, is_hash};
+ghost use Rattle.doc_people.specs.BrokenLinks.{missing_heading, missing_page, more_row, reason_text, source_row, table_or_note, written_anchor, written_path};
+ghost use Rattle.doc_people.specs.KeptPaths.{may_begin};
 ghost use Rattle.doc_people.specs.Limits.{link_limit, source_limit};
 ghost use Rattle.doc_people.specs.Lists.{note_from};
 
@@ -35,10 +36,10 @@ const LINK_LIMIT: usize = 50;
 /// Room for a link: a guess, on which nothing rests.
 const ROW_ROOM: usize = 128;
 
-/// The page for people that lists the broken links of the pages from a text on.
+/// The page for people that lists the broken links of the pages from a text on, and their images that show nothing.
 pub fn broken_body<V: Viewed>(frame: Frame<'_>, view: &V, from: &str) -> Result<Text, Memory>
     ensures { IfOk result (λ text. text ≡ broken_body (V.render view.now) frame.entry.browse.now
-        frame.entry.offers (V.view view.now) from.now) }
+        frame.entry.offers (V.view view.now) (V.media view.now) from.now) }
 {
     let links = view.broken_from(from)?;
     let rows = links.get().len().min(SOURCE_LIMIT * LINK_LIMIT);
@@ -56,8 +57,8 @@ fn push_main<V: Viewed>(
     links: &[Broken],
 ) -> Result<(), Memory>
     ensures { OnOk result (string_bytes out.new ≡ string_bytes out.old
-        ++ broken_main (V.render view.now) frame.entry.offers (V.view view.now) from.now
-        (by_source links.now)) }
+        ++ broken_main (V.render view.now) frame.entry.offers (V.view view.now)
+        (V.media view.now) from.now (by_source links.now)) }
 {
     out.push_str("<h1>Broken links</h1>\n<p>A page that you may not read counts as none.</p>\n")?;
     let left = push_table(out, frame, view, from, links)?;
@@ -83,7 +84,7 @@ fn push_table<'a, V: Viewed>(
     links: &'a [Broken],
 ) -> Result<&'a [Broken], Memory>
     ensures written { OnOk result (string_bytes out.new ≡ string_bytes out.old ++ table_or_note
-        (V.render view.now) frame.entry.offers (V.view view.now)
+        (V.render view.now) frame.entry.offers (V.view view.now) (V.media view.now)
         (note_from from.now (codes "No link is broken on the pages that you may read."))
         (take source_limit (by_source links.now))) }
     ensures left { IfOk result (λ left. by_source left.now
@@ -121,7 +122,8 @@ fn push_groups<'a, V: Viewed>(
     links: &'a [Broken],
 ) -> Result<&'a [Broken], Memory>
     ensures written { OnOk result (string_bytes out.new ≡ string_bytes out.old ++ flat_map
-        (broken_group (V.render view.now) frame.entry.offers (V.view view.now))
+        (broken_group (V.render view.now) frame.entry.offers (V.view view.now)
+        (V.media view.now))
         (take source_limit (by_source links.now))) }
     ensures left { IfOk result (λ left. by_source left.now
         ≡ drop source_limit (by_source links.now)) }
@@ -148,7 +150,7 @@ fn push_group<V: Viewed>(
 ) -> Result<(), Memory>
     ensures { OnOk result (string_bytes out.new ≡ string_bytes out.old
         ++ broken_group (V.render view.now) frame.entry.offers (V.view view.now)
-        (source.now, links.now)) }
+        (V.media view.now) (source.now, links.now)) }
 {
     out.push_str("<tbody>\n")?;
     push_source_row(out, frame.heap, view, source)?;
@@ -203,7 +205,8 @@ fn push_rows<V: Viewed>(
     links: &[Broken],
 ) -> Result<(), Memory>
     ensures { OnOk result (string_bytes out.new ≡ string_bytes out.old
-        ++ flat_map (broken_row frame.entry.offers (V.view view.now)) links.now) }
+        ++ flat_map (broken_row frame.entry.offers (V.view view.now) (V.media view.now))
+        links.now) }
 {
     for link in links {
         push_row(out, frame, view, link)?;
@@ -219,7 +222,8 @@ fn push_row<V: Viewed>(
     link: &Broken,
 ) -> Result<(), Memory>
     ensures { OnOk result (string_bytes out.new
-        ≡ string_bytes out.old ++ broken_row frame.entry.offers (V.view view.now) link.now) }
+        ≡ string_bytes out.old
+        ++ broken_row frame.entry.offers (V.view view.now) (V.media view.now) link.now) }
 {
     out.push_str("<tr><td>")?;
     push_number(out, link.place)?;
@@ -238,6 +242,7 @@ fn reason_text(reason: Reason) -> &'static str
         Reason::Page => "no such page",
         Reason::Anchor => "no such heading",
         Reason::Path => "no path of a page",
+        Reason::Image => "no such picture",
     }
 }
 
@@ -250,34 +255,79 @@ fn push_goal_cell<V: Viewed>(
     target: &str,
 ) -> Result<(), Memory>
     ensures { OnOk result (string_bytes out.new ≡ string_bytes out.old
-        ++ goal_cell frame.entry.offers (V.view view.now) reason target.now) }
+        ++ goal_cell frame.entry.offers (V.view view.now) (V.media view.now) reason
+        target.now) }
 {
     match reason {
-        Reason::Page => push_missing_page(out, frame.offers.tools, target),
+        Reason::Page => push_missing_page(out, frame, view, target),
         Reason::Anchor => push_missing_heading(out, frame.heap, view, target),
-        Reason::Path => {
-            out.push_str("\u{2013}")?;
-            Ok(())
-        }
+        Reason::Path => push_dash(out),
+        Reason::Image => push_image_cell(out, target),
     }
 }
 
-/// Writes a page that isn't there, and what begins it, where tools are offered.
-fn push_missing_page(out: &mut String, offered: bool, target: &str) -> Result<(), Memory>
-    ensures { OnOk result (string_bytes out.new ≡ string_bytes out.old
-        ++ (codes "<code>" ++ escaped target.now ++ codes "</code>"
-        ++ begin_link offered target.now)) }
+/// Writes what stands where a link writes no path.
+fn push_dash(out: &mut String) -> Result<(), Memory>
+    ensures { OnOk result (string_bytes out.new ≡ string_bytes out.old ++ dash) }
 {
-    push_code(out, target)?;
-    push_begin_link(out, offered, target)
+    out.push_str("\u{2013}")?;
+    Ok(())
 }
 
-/// Writes what begins a page, where tools are offered.
-fn push_begin_link(out: &mut String, offered: bool, path: &str) -> Result<(), Memory>
-    ensures { OnOk result (string_bytes out.new
-        ≡ string_bytes out.old ++ begin_link offered path.now) }
+/// Writes the path that an image writes, or that it writes none.
+fn push_image_cell(out: &mut String, target: &str) -> Result<(), Memory>
+    ensures { OnOk result (string_bytes out.new ≡ string_bytes out.old ++ image_cell target.now) }
 {
-    if !offered {
+    if target == "-" {
+        return push_dash(out);
+    }
+    push_code(out, target)
+}
+
+/// Writes a page that isn't there, and what begins it, where it may be begun.
+fn push_missing_page<V: Viewed>(
+    out: &mut String,
+    frame: Frame<'_>,
+    view: &V,
+    target: &str,
+) -> Result<(), Memory>
+    ensures { OnOk result (string_bytes out.new ≡ string_bytes out.old
+        ++ missing_page frame.entry.offers (V.view view.now) (V.media view.now) target.now) }
+{
+    push_code(out, target)?;
+    let begins = begins_at(frame, view, target)?;
+    push_begin_link(out, begins, target)
+}
+
+/// Whether a page may be begun at a path: where tools are offered, unless the path is kept for media.
+fn begins_at<V: Viewed>(frame: Frame<'_>, view: &V, path: &str) -> Result<bool, Memory>
+    ensures { IfOk result (λ begins. begins ≡ (frame.entry.offers.tools
+        && may_begin (V.view view.now) (V.media view.now) path.now)) }
+{
+    if !frame.offers.tools {
+        return Ok(false);
+    }
+    may_begin(frame.heap, view, path)
+}
+
+/// Whether a page may stand under a text: it is a path, and not kept for media.
+fn may_begin<V: Viewed>(heap: Heap, view: &V, text: &str) -> Result<bool, Memory>
+    ensures { IfOk result
+        (λ may. may ≡ may_begin (V.view view.now) (V.media view.now) text.now) }
+{
+    match Path::new(heap, text) {
+        Ok(path) => Ok(!view.is_kept(&path)),
+        Err(PathError::BadPath) => Ok(false),
+        Err(PathError::Memory) => Err(Memory),
+    }
+}
+
+/// Writes what begins a page, where one may be begun.
+fn push_begin_link(out: &mut String, begins: bool, path: &str) -> Result<(), Memory>
+    ensures { OnOk result (string_bytes out.new
+        ≡ string_bytes out.old ++ begin_link begins path.now) }
+{
+    if !begins {
         return Ok(());
     }
     out.push_str(" ")?;

@@ -27,7 +27,7 @@ const ROOM: usize = 512;
 pub fn page_body<V: Viewed>(frame: Frame<'_>, view: &V, path: &Path) -> Result<Option<Text>, Memory>
     ensures { IfOk result (λ text. text ≡ option_map
         (page_body (V.render view.now) frame.entry.browse.now frame.entry.offers
-        (V.view view.now) path.now)
+        (V.view view.now) (V.media view.now) path.now)
         (rendered_at (V.render view.now) (V.view view.now) path.now)) }
 {
     let Some(html) = view.html(path)? else {

@@ -41,7 +41,7 @@ fn push_links(out: &mut String) -> Result<(), Memory>
     out.push_str(
         "</title>\n<link rel=\"icon\" href=\"data:,\">\n<link rel=\"stylesheet\" href=\"",
     )?;
-    out.push_str("/style.css?4")?;
+    out.push_str("/style.css?5")?;
     out.push_str("\">\n</head>\n<body>\n")?;
     Ok(())
 }

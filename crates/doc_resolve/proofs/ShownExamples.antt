@@ -25,6 +25,7 @@ page = record {
       (record { dest = codes "d.md"; title = None }) ∷ Html (codes "d</a></p>\n") ∷ [];
   headings = [];
   texts = codes "c d" ∷ [];
+  images = [];
 }
 
 -- a reader who sees `c.md`, one who doesn't, and one who sees the page `e/c.md`, of which `c.md` is an alias

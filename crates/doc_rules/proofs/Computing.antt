@@ -56,7 +56,7 @@ use Rattle.doc_rules.specs.Html.{align_attribute, cell_html, cells_html, row_htm
 use Rattle.doc_rules.specs.Html.{written_text, html_of, plain_linker, rendered_plain}
 use Rattle.doc_rules.specs.Anchors.{anchor_char, or_section, anchor_name, free_number, free_anchor, anchors_behind}
 use Rattle.doc_rules.specs.Pages.{onto_html, pieces_of, page_headings, document_anchors, document_page, page_of, piece_text, filled}
-use Rattle.doc_rules.specs.Pages.{encoded_piece, encoded_heading, encoded}
+use Rattle.doc_rules.specs.Pages.{encoded_piece, encoded_heading, encoded, noted, images_in, images_told}
 
 -- characters, lines, columns and parsers
 unfoldable pub text_words : Unit {0}
@@ -117,5 +117,6 @@ html_words = tt
 -- and pages
 unfoldable pub page_words : Unit {0}
 unfolding html_words anchor_char or_section anchor_name free_number free_anchor anchors_behind onto_html pieces_of page_headings
+    noted images_in images_told
     document_anchors document_page page_of piece_text filled encoded_piece encoded_heading encoded
 page_words = tt

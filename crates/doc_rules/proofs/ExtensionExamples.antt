@@ -69,6 +69,7 @@ no_text :
       pieces = HtmlPiece (codes "<ul>\n<li><input type=\"checkbox\" disabled=\"\" /> a</li>\n</ul>\n") ∷ [];
       headings = [];
       texts = codes "a" ∷ [];
+      images = [];
     }
 unfolding page_words
 no_text = refl

@@ -1,5 +1,5 @@
 -- Examples: pages, in characters and in UTF-8, and the limits on containers and labels.
-use Rattle.std.proofs.Common.{◌≡◌, ℕ, [], ◌∷◌, ◌++◌, replicate, refl, ap, ◌∙◌}
+use Rattle.std.proofs.Common.{◌≡◌, ℕ, [], ◌∷◌, ◌++◌, replicate, refl, ap, ◌∙◌, true}
 use Rattle.std.specs.Prelude.{codes, Some, None}
 use Rattle.std.specs.List.{concat}
 use Rattle.doc_rules.proofs.Computing.{html_words, page_words}
@@ -28,20 +28,36 @@ links_headings_and_texts :
           ∷ record { level = 2; anchor = codes "a-b-1"; text = codes "A b" }
           ∷ [];
       texts = codes "A b" ∷ codes "c http://f" ∷ codes "A b" ∷ codes "x" ∷ codes "y\n" ∷ [];
+      images = [];
     }
 unfolding page_words
 links_headings_and_texts = refl
 
-empty_page : page_of built_in_rules [] ≡ record { pieces = []; headings = []; texts = [] }
+empty_page : page_of built_in_rules [] ≡ record { pieces = []; headings = []; texts = []; images = [] }
 unfolding page_words
 empty_page = refl
 
 -- a link in an image's text is no link
 link_in_an_image :
     page_of built_in_rules (codes "![a [b](c)](d)\n")
-    ≡ record { pieces = HtmlPiece (codes "<p><img src=\"d\" alt=\"a b\" /></p>\n") ∷ []; headings = []; texts = codes "a b" ∷ [] }
+    ≡ record { pieces = HtmlPiece (codes "<p><img src=\"d\" alt=\"a b\" /></p>\n") ∷ []; headings = []; texts = codes "a b" ∷ []; images = [] }
 unfolding page_words
 link_in_an_image = refl
+
+-- where a page tells its images: in order, also in cells and in links, and none that stands in another's text; what is written is the same
+images_of_a_page :
+    (page_of (record built_in_rules { tables = true; images = true })
+    (codes "![a](x.png) ![b ![c](y.png)](z.png)\n\n|a|b|\n|-|-|\n|![d](%ff)|[![e](start.md)](u)|\n")).images
+    ≡ codes "x.png" ∷ codes "z.png" ∷ codes "%ff" ∷ codes "start.md" ∷ []
+    × (page_of (record built_in_rules { images = true }) (codes "![a [b](c)](d)\n")
+    ≡ record {
+      pieces = HtmlPiece (codes "<p><img src=\"d\" alt=\"a b\" /></p>\n") ∷ [];
+      headings = [];
+      texts = codes "a b" ∷ [];
+      images = codes "d" ∷ [];
+    })
+unfolding page_words
+images_of_a_page = (refl, refl)
 
 -- in a tight list; an empty title is there, none is not
 links_in_a_list :
@@ -56,6 +72,7 @@ links_in_a_list :
           ∷ [];
       headings = [];
       texts = codes "ac" ∷ [];
+      images = [];
     }
 unfolding page_words
 links_in_a_list = refl
@@ -73,6 +90,7 @@ texts_of_blocks :
           ∷ [];
       headings = [];
       texts = codes "a c d  e" ∷ codes "x uu:v y" ∷ codes "f  \n" ∷ [];
+      images = [];
     }
 unfolding page_words
 texts_of_blocks = refl
@@ -84,6 +102,7 @@ heading_of_two_lines :
       pieces = HtmlPiece (codes "<h1 id=\"a-b\">a\nB!</h1>\n") ∷ [];
       headings = record { level = 1; anchor = codes "a-b"; text = codes "a B!" } ∷ [];
       texts = codes "a B!" ∷ [];
+      images = [];
     }
 unfolding page_words
 heading_of_two_lines = refl
@@ -99,6 +118,7 @@ page_in_bytes :
           ∷ [];
       headings = record { level = 1; anchor = 0xC3 ∷ 0xA4 ∷ []; text = 0xC3 ∷ 0xA4 ∷ [] } ∷ [];
       texts = (0xC3 ∷ 0xA4 ∷ []) ∷ (0xC3 ∷ 0xA4 ∷ codes " b") ∷ [];
+      images = [];
     }
 unfolding page_words
 page_in_bytes = refl

@@ -7,7 +7,7 @@ use Rattle.doc_rules.specs.Blocks.{Document, document_of}
 use Rattle.doc_page_parts.specs.declared.rendered.LinkSpot.{LinkSpot}
 use Rattle.doc_page_parts.specs.declared.rendered.Piece.{Piece}
 use Rattle.doc_page_parts.specs.declared.rendered.Piece.TheVariants.{Html, Link}
-use Rattle.doc_rules.specs.Html.{Character, LinkTag, Output, output_of, Linker, written_text, link_tag}
+use Rattle.doc_rules.specs.Html.{Character, LinkTag, ImageNote, Output, output_of, Linker, written_text, link_tag}
 use Rattle.doc_rules.specs.Pages.{PagePiece, HtmlPiece, LinkPiece, onto_html, pieces_of, document_anchors, document_page, page_of}
 use Rattle.doc_rules.specs.Pages.{piece_text, filled, encoded_piece, encoded}
 use Rattle.doc_page.specs.Laws as pages
@@ -27,6 +27,7 @@ unfolding pieces_of
 pieces_are_cut [] = tt
 pieces_are_cut (Character c ∷ more) = onto_cut c (pieces_of more) (pieces_are_cut more)
 pieces_are_cut (LinkTag target ∷ more) = pieces_are_cut more
+pieces_are_cut (ImageNote dest ∷ more) = pieces_are_cut more
 
 onto_fills : (linker : Linker) (c : ℕ) (some : List PagePiece) → filled linker (onto_html c some) ≡ c ∷ filled linker some
 unfolding onto_html filled piece_text
@@ -39,6 +40,7 @@ unfolding pieces_of filled piece_text written_text
 pieces_join linker [] = refl
 pieces_join linker (Character c ∷ more) = onto_fills linker c (pieces_of more) ∙ ap (λ t. c ∷ t) (pieces_join linker more)
 pieces_join linker (LinkTag target ∷ more) = ap (λ t. link_tag (linker target.dest) target.title ++ t) (pieces_join linker more)
+pieces_join linker (ImageNote dest ∷ more) = pieces_join linker more
 
 -- ---- in UTF-8
 

@@ -118,6 +118,7 @@ texts_of_cells :
           ∷ [];
       headings = [];
       texts = codes "a" ∷ codes "b" ∷ codes "c" ∷ codes "d" ∷ codes "e" ∷ [];
+      images = [];
     }
 unfolding page_words
 texts_of_cells = refl

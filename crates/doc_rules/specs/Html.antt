@@ -22,10 +22,12 @@ use Rattle.doc_rules.specs.PlainTexts.{plain}
 use Rattle.doc_page_parts.specs.Pages.{title_attribute, opening_tag}
 use Rattle.doc_page_parts.specs.declared.linker.Shown.TheVariants as page
 
--- what is written: characters, and opening tags of links, which a linker shows later
+-- what is written: characters, and opening tags of links, which a linker shows later; and where an image begins a note of its destination,
+-- which is shown as nothing
 pub data Written : Type 0 where
   Character : ℕ → Written
   LinkTag : Target → Written
+  ImageNote : Text → Written
 
 -- what is written, in its order
 abbrev pub Output : Type 0
@@ -43,7 +45,7 @@ span_start Emphasis = characters (codes "<em>")
 span_start Strong = characters (codes "<strong>")
 span_start Strike = characters (codes "<del>")
 span_start (Link target) = LinkTag target ∷ []
-span_start (Image target) = characters (codes "<img src=\"" ++ url_escape target.dest ++ codes "\" alt=\"")
+span_start (Image target) = ImageNote target.dest ∷ characters (codes "<img src=\"" ++ url_escape target.dest ++ codes "\" alt=\"")
 
 -- what stands behind a span; the attribute of a title is doc_page's, over characters
 unfoldable pub span_end : Span → Text
@@ -102,6 +104,7 @@ unfoldable pub is_fresh : Output → Bool
 is_fresh [] = true
 is_fresh (Character c ∷ []) = c == 10
 is_fresh (LinkTag target ∷ []) = false
+is_fresh (ImageNote dest ∷ []) = false
 is_fresh (x ∷ y ∷ more) = is_fresh (y ∷ more)
 
 -- a LF, unless nothing was written yet or a LF was written last
@@ -268,10 +271,11 @@ unfoldable pub link_tag : Shown → Option Text → Text
 link_tag (Href href) title = opening_tag title (page.Href href)
 link_tag Missing title = opening_tag title page.Missing
 
--- a character as it is, the tag of a link as the linker shows it
+-- a character as it is, the tag of a link as the linker shows it, a note not at all
 unfoldable pub written_text : Linker → Written → Text
 written_text linker (Character c) = c ∷ []
 written_text linker (LinkTag target) = link_tag (linker target.dest) target.title
+written_text linker (ImageNote dest) = []
 
 -- a document as HTML
 unfoldable pub html_of : Rules → Linker → List Text → Document → Text

@@ -1,12 +1,12 @@
--- Pages (this project's choice): HTML cut at the opening tags of links, headings with anchors, texts; then the same in UTF-8.
-use Rattle.std.specs.Prelude.{ℕ, List, [], ◌∷◌, map, flat_map, encode_utf8_all, option_map}
+-- Pages (this project's choice): HTML cut at the opening tags of links, headings with anchors, texts, images; then the same in UTF-8.
+use Rattle.std.specs.Prelude.{ℕ, List, [], ◌∷◌, map, flat_map, encode_utf8_all, option_map, if◌then◌else◌}
 use Rattle.doc_rules.specs.Characters.{Text}
 use Rattle.doc_rules.specs.Rules.{Rules}
 use Rattle.doc_rules.specs.Destinations.{Target}
 use Rattle.doc_rules.specs.Blocks.{Document, document_of}
 use Rattle.doc_rules.specs.PlainTexts.{headings_of, texts_of}
 use Rattle.doc_rules.specs.Anchors.{anchors_of}
-use Rattle.doc_rules.specs.Html.{Character, LinkTag, Output, output_of, Linker, link_tag, Shown, Href, Missing}
+use Rattle.doc_rules.specs.Html.{Character, LinkTag, ImageNote, Output, Written, output_of, Linker, link_tag, Shown, Href, Missing}
 use Rattle.doc_page_parts.specs.declared.linker.Shown.{Shown as PageShown}
 use Rattle.doc_page_parts.specs.declared.linker.Shown.TheVariants as page
 use Rattle.doc_page_parts.specs.declared.rendered.Rendered.{Rendered}
@@ -30,6 +30,7 @@ pub record Page : Type 0 where
   pub pieces : List PagePiece
   pub headings : List PageHeading
   pub texts : List Text
+  pub images : List Text
 
 -- ---- pieces
 
@@ -44,6 +45,23 @@ unfoldable pub pieces_of : Output → List PagePiece
 pieces_of [] = []
 pieces_of (Character c ∷ more) = onto_html c (pieces_of more)
 pieces_of (LinkTag target ∷ more) = LinkPiece target ∷ pieces_of more
+pieces_of (ImageNote dest ∷ more) = pieces_of more
+
+-- ---- images
+
+-- the destination of an image that begins here
+unfoldable pub noted : Written → List Text
+noted (Character c) = []
+noted (LinkTag target) = []
+noted (ImageNote dest) = dest ∷ []
+
+-- the destinations of the images in what is written, in their order
+unfoldable pub images_in : Output → List Text
+images_in = flat_map noted
+
+-- the same, where a page tells its images
+unfoldable pub images_told : Rules → Output → List Text
+images_told rules output = if rules.images then images_in output else []
 
 -- ---- headings
 
@@ -64,10 +82,12 @@ document_anchors rules document = anchors_of (map (λ heading. heading.1) (headi
 unfoldable pub document_page : Rules → Document → Page
 document_page rules document =
     let anchors : List Text = document_anchors rules document in
+    let output : Output = output_of rules anchors document in
     record {
-      pieces = pieces_of (output_of rules anchors document);
+      pieces = pieces_of output;
       headings = page_headings (headings_of rules document) anchors;
       texts = texts_of rules document;
+      images = images_told rules output;
     }
 
 -- the page of a text
@@ -98,8 +118,12 @@ encoded_heading heading = record { level = heading.level; anchor = encode_utf8_a
 
 -- a page in UTF-8
 unfoldable pub encoded : Page → Rendered
-encoded page =
-    record { pieces = map encoded_piece page.pieces; headings = map encoded_heading page.headings; texts = map encode_utf8_all page.texts }
+encoded page = record {
+  pieces = map encoded_piece page.pieces;
+  headings = map encoded_heading page.headings;
+  texts = map encode_utf8_all page.texts;
+  images = map encode_utf8_all page.images;
+}
 
 -- what the renderer makes of a text
 abbrev pub rendered_of : Rules → Text → Rendered

@@ -17,7 +17,7 @@ use Rattle.doc_store.specs.declared.store.EditError.TheVariants.{TooLong, StoreF
 use Rattle.doc_store.specs.declared.store.Put.{Put}
 use Rattle.doc_store.specs.declared.store.Put.TheVariants.{Created, Replaced}
 use Rattle.doc_store.specs.Store.{text_limit, page_limit, put_limit, fits, put_by}
-use Rattle.doc_hub.specs.Worlds.{World, store_of}
+use Rattle.doc_hub.specs.Worlds.{World, may_put, store_of}
 use Rattle.doc_server_config.specs.Configurations.{config_of}
 use Rattle.doc_server_config.specs.declared.config.ConfigError.{ConfigError}
 use Rattle.doc_server_config.specs.declared.config.ConfigError.TheVariants as config_errors
@@ -87,9 +87,9 @@ fits_few pages puts stands text few little short =
 abbrev IsAccepted : World → List ℕ → List ℕ → List ℕ → Type 0
 IsAccepted w path group text = (answer : Put) × ((page_put w path group text).1 ≡ Ok answer)
 
--- at most n pages and puts
+-- at most n pages and puts, and no media
 abbrev IsSmall : ℕ → World → Type 0
-IsSmall n w = (map.len w.site.pages ≤ n) × (w.puts ≤ n)
+IsSmall n w = (map.len w.site.pages ≤ n) × (w.puts ≤ n) × (w.media ≡ None)
 
 one_more : (b : Bool) (k n : ℕ) → k ≤ n → cond b k (k + 1) ≤ n + 1
 one_more true k n le = omega arith
@@ -97,22 +97,24 @@ one_more false k n le = omega arith
 
 accepted : (n : ℕ) (w : World) (path group text : List ℕ) → n ≤ 2 → IsSmall n w → nat_lt text_limit (length text) ≡ false
     → IsAccepted w path group text × IsSmall (n + 1) (with_page w path group text)
-accepted n w path group text le (few, little) short =
+accepted n w path group text le (few, little, none) short =
     let page : Page = record { groups = group ∷ []; text = text } in
     let stands = map.contains_key w.site.pages path in
-    let fine : fits (map.len w.site.pages) stands w.puts text
-    ≡ Ok tt = fits_few (map.len w.site.pages) w.puts stands text (omega arith) (omega arith) short in
+    let fine : may_put w.media (store_of w) path text ≡ Ok tt =
+    ap (λ media. may_put media (store_of w) path text) none
+    ∙ fits_few (map.len w.site.pages) w.puts stands text (omega arith) (omega arith) short in
     let put = ap (put_by (store_of w) path page stands) fine in (
       ((if stands then Replaced else Created), ap (λ r. r.1) put),
-      subst (λ store. (map.len store.site.pages ≤ n + 1) × (store.puts ≤ n + 1)) (sym (ap (λ r. r.0) put)) (
+      subst (λ store. (map.len store.site.pages ≤ n + 1) × (store.puts ≤ n + 1) × (w.media ≡ None)) (sym (ap (λ r. r.0) put)) (
         subst (λ k. k ≤ n + 1) (sym (map.len-insert nat_list_cmp_total w.site.pages path page))
             (one_more stands (map.len w.site.pages) n few),
         omega arith,
+        none,
       ),
     )
 
 nothing_put : IsSmall 0 site_of_none
-nothing_put = (subst (λ n. n ≤ 0) (sym (map.len-empty _ _)) (omega arith), omega arith)
+nothing_put = (subst (λ n. n ≤ 0) (sym (map.len-empty _ _)) (omega arith), omega arith, refl)
 
 abbrev page_a : PageRow
 page_a = demo_page (codes "a.md") (codes "staff") (codes "Hello\n")

@@ -162,7 +162,7 @@ module _ (config : SiteConfig) (texts : List (List ℕ)) (fault : Fault)
   site_fails =
       memory_or fault (λ other.
       let is = holds other in
-      (is, no_site (is_capacity config.cache) (with_pages (new_world config.readers (settings_of config)) config.pages texts) fault is))
+      (is, no_site (is_capacity config.cache) (with_pages (new_world config.readers (settings_of config) None) config.pages texts) fault is))
 
   -- one of three
   by_three : (P : Fault → Type 0) → P faults.Memory → (site_world config texts ≡ Err faults.Refused → P faults.Refused)

@@ -46,7 +46,7 @@ with_page w path group text = (page_put w path group text).0
 
 -- a new server with these readers, which keeps connections alive, and after puts of a first, a second and a third page
 abbrev pub site_of_none : World
-site_of_none = new_world demo_readers (plain_settings true)
+site_of_none = new_world demo_readers (plain_settings true) None
 
 abbrev pub site_of_one : World
 site_of_one = with_page site_of_none (codes "a.md") (codes "staff") (codes "Hello\n")

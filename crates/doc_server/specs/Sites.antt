@@ -3,6 +3,7 @@ use Rattle.std.specs.Prelude.{ℕ, List, [], ◌∷◌, Option, Some, None, Resu
 use Rattle.std.specs.Option.{ok_or}
 use Rattle.doc_store.specs.declared.store.EditError.{EditError}
 use Rattle.doc_store.specs.declared.store.Put.{Put}
+use Rattle.doc_media.specs.Media.{Media}
 use Rattle.doc_hub.specs.Worlds.{World, is_capacity, new_world, world_put}
 use Rattle.doc_people.specs.declared.settings.Settings.{Settings}
 use Rattle.doc_server_config.specs.declared.config.SiteConfig.{SiteConfig}
@@ -46,10 +47,14 @@ with_pages w (page ∷ more) texts = elim (with_page w page (text_of page.source
 abbrev pub settings_of : SiteConfig → Settings
 settings_of config = record { keep_alive = config.keep_alive; browse = config.browse }
 
--- the world of a configured site, without connections, or what stops the program: the cache may have no such capacity, or a page is
--- refused
-abbrev pub site_world : SiteConfig → List (List ℕ) → Result World Fault
-site_world config texts =
+-- the world of a configured site beside media, without connections, or what stops the program: the cache may have no such capacity, or a
+-- page is refused, as where a medium stands under its path
+abbrev pub site_world_beside : SiteConfig → List (List ℕ) → Media → Result World Fault
+site_world_beside config texts media =
     if is_capacity config.cache
-    then ok_or (with_pages (new_world config.readers (settings_of config)) config.pages texts) faults.Refused
+    then ok_or (with_pages (new_world config.readers (settings_of config) media) config.pages texts) faults.Refused
     else Err faults.Config
+
+-- the same without media
+abbrev pub site_world : SiteConfig → List (List ℕ) → Result World Fault
+site_world config texts = site_world_beside config texts None

@@ -2,10 +2,11 @@
 
 ghost use Rattle.std.specs.Prelude.{◌≡◌, ◌≢◌, true, false, None, Some, Ok, Err, IfOk, IfErr, OnOk};
 ghost use Rattle.doc_hub.specs.Worlds.{is_capacity, new_world};
-ghost use Rattle.doc_server.specs.Sites.{site_world, text_of, texts_behind, with_page, with_pages};
+ghost use Rattle.doc_server.specs.Sites.{site_world, site_world_beside, text_of, texts_behind, with_page, with_pages};
 
 use doc_hub::hub::Hub;
 use doc_hub::refusal::HubError;
+use doc_media::media::Media;
 use doc_page::renderer::Renderer;
 use doc_page_parts::heap::Heap;
 use doc_page_parts::text::Text;
@@ -30,6 +31,23 @@ pub fn site_hub<R: Renderer + Drop>(
     ensures fault { IfErr result (λ fault. fault ≢ Fault.Memory
         → site_world config texts.now ≡ Err fault) }
 {
+    site_hub_beside(heap, renderer, config, texts, None)
+}
+
+/// The same with these media beside the pages. `Refused` says also that a medium stands under the path of a page.
+pub fn site_hub_beside<R: Renderer + Drop>(
+    heap: Heap,
+    renderer: R,
+    config: SiteConfig,
+    texts: &[Text],
+    media: Option<Media>,
+) -> Result<Hub<R>, Fault>
+    ensures world { IfOk result
+        (λ hub. site_world_beside config texts.now media ≡ Ok hub.1) }
+    ensures same { IfOk result (λ hub. R.page hub.0 ≡ R.page renderer) }
+    ensures fault { IfErr result (λ fault. fault ≢ Fault.Memory
+        → site_world_beside config texts.now media ≡ Err fault) }
+{
     let SiteConfig {
         keep_alive,
         cache,
@@ -40,7 +58,7 @@ pub fn site_hub<R: Renderer + Drop>(
         browse,
     } = config;
     let settings = Settings { keep_alive, browse };
-    let mut hub = new_hub(heap, renderer, readers, settings, cache)?;
+    let mut hub = new_hub(heap, renderer, readers, settings, cache, media)?;
     put_pages(&mut hub, pages.get(), texts)?;
     Ok(hub)
 }
@@ -51,13 +69,14 @@ fn new_hub<R: Renderer + Drop>(
     readers: Readers,
     settings: Settings,
     cache: usize,
+    media: Option<Media>,
 ) -> Result<Hub<R>, Fault>
-    ensures made { IfOk result (λ hub. hub ≡ (renderer, new_world readers settings)) }
+    ensures made { IfOk result (λ hub. hub ≡ (renderer, new_world readers settings media)) }
     ensures capacity { IfOk result (λ hub. is_capacity cache ≡ true) }
     ensures fault { IfErr result (λ fault. fault ≢ Fault.Memory
         → (fault ≡ Fault.Config) × (is_capacity cache ≡ false)) }
 {
-    match Hub::with_settings(heap, renderer, readers, settings, cache) {
+    match Hub::with_media(heap, renderer, readers, settings, cache, media) {
         Ok(hub) => Ok(hub),
         Err(HubError::Memory) => Err(Fault::Memory),
         Err(HubError::BadCapacity) => Err(Fault::Config),

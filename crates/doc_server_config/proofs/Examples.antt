@@ -78,7 +78,7 @@ extensions :
       keep_alive = true;
       cache = 64;
       entities = None;
-      markdown = record { front = none; options = record { tables = true; strikethrough = false; tasks = true; bare_links = false } };
+      markdown = record { front = none; options = record { tables = true; strikethrough = false; tasks = true; bare_links = false; images = false } };
       readers = map.empty;
       pages = [];
       browse = None;
@@ -90,7 +90,7 @@ extensions :
       entities = None;
       markdown = record {
         front = record { skip_bom = true; front_matter = Keep };
-        options = record { tables = false; strikethrough = true; tasks = false; bare_links = true };
+        options = record { tables = false; strikethrough = true; tasks = false; bare_links = true; images = false };
       };
       readers = map.empty;
       pages = [];
@@ -98,6 +98,19 @@ extensions :
     }))
 unfolding toml_on_literals
 extensions = (refl, refl)
+
+told_images : config_of (codes "[markdown]\ncheck_images = true\ntasks = true\n")
+    ≡ Ok (record {
+      keep_alive = true;
+      cache = 64;
+      entities = None;
+      markdown = record { front = none; options = record { tables = false; strikethrough = false; tasks = true; bare_links = false; images = true } };
+      readers = map.empty;
+      pages = [];
+      browse = None;
+    })
+unfolding toml_on_literals
+told_images = refl
 
 -- no table, another key, and other values
 bad_fronts :
@@ -115,8 +128,10 @@ bad_extensions :
     × (config_of (codes "[markdown]\ntasks = []\n") ≡ Err BadSetting)
     × (config_of (codes "[markdown]\nbare_links = 0\n") ≡ Err BadSetting)
     × (config_of (codes "[markdown]\nTables = true\n") ≡ Err BadSetting)
+    × (config_of (codes "[markdown]\ncheck_images = \"true\"\n") ≡ Err BadSetting)
+    × (config_of (codes "[markdown]\nimages = true\n") ≡ Err BadSetting)
 unfolding toml_on_literals
-bad_extensions = (refl, refl, refl, refl, refl)
+bad_extensions = (refl, refl, refl, refl, refl, refl, refl)
 
 no_toml : config_of (codes "cache = ") ≡ Err BadToml
 unfolding toml_on_literals

@@ -2,7 +2,7 @@ mod Examples
 mod BrowsingExamples
 mod ListeningExamples
 mod KeySteps
-mod FolderPageSteps
+pub mod FolderPageSteps
 mod OverlapSteps
 mod ReadmeSteps
 mod PartSteps

@@ -8,8 +8,8 @@ use Rattle.doc_server_config.specs.declared.reason.Reason.TheVariants.{BadCharac
 use Rattle.doc_page_parts.specs.Paths.{is_path}
 use Rattle.doc_store_readers.specs.Groups.{groups_of_names}
 use Rattle.doc_server_config.specs.declared.folder.FolderFault.TheVariants.{OtherKey, BadFile, BadPrefix, BadGroups, BadExcept, BadNames, BadReadme}
-use Rattle.doc_server_config.specs.declared.folder.FolderFault.TheVariants.{BadOnBad}
-use Rattle.doc_server_config.specs.declared.listening.ListeningError.TheVariants.{BadToml, BadListen, BadConnections, BadIdleSeconds}
+use Rattle.doc_server_config.specs.declared.folder.FolderFault.TheVariants.{BadMedia, BadOnBad}
+use Rattle.doc_server_config.specs.declared.listening.ListeningError.TheVariants.{BadToml, BadListen, BadConnections, BadIdleSeconds, BadMediaBytes}
 use Rattle.doc_server_config.specs.declared.listening.ListeningError.TheVariants.{BadFolders, BadFolder}
 use Rattle.doc_server_config.specs.Excepted.{is_excepted}
 use Rattle.doc_server_config.specs.FileNames.{path_in_folder}
@@ -20,23 +20,24 @@ use Rattle.doc_server_config.specs.Readmes.{index_move}
 -- ---- what is read
 
 -- nothing is said, or nothing that is `listen`'s concern: 1,024 connections, 30 seconds, no folder
-empty_text : listening_of (codes "") ≡ Ok (record { bounds = record { connections = 1024; idle_seconds = 30 }; folders = [] })
+empty_text : listening_of (codes "") ≡ Ok (record { bounds = record { connections = 1024; idle_seconds = 30; media_bytes = 67108864 }; folders = [] })
 unfolding toml_on_literals
 empty_text = refl
 
 other_keys_of_the_document : listening_of (codes "cache = 0\npage = 1\n[listen]\n")
-    ≡ Ok (record { bounds = record { connections = 1024; idle_seconds = 30 }; folders = [] })
+    ≡ Ok (record { bounds = record { connections = 1024; idle_seconds = 30; media_bytes = 67108864 }; folders = [] })
 unfolding toml_on_literals
 other_keys_of_the_document = refl
 
-all_keys : listening_of (codes "[[folder]]\npath = \"../d\"\nprefix = \"g/h\"\ngroups = [\"b\", \"a\"]\nexcept = [\"x/y\", \".z\"]\nnames = \"nfc\"\nreadme = true\non_bad = \"skip\"\n[[folder]]\npath = \"\"\n[listen]\nconnections = 1\nidle_seconds = 86400\n")
+all_keys : listening_of (codes "[[folder]]\npath = \"../d\"\nprefix = \"g/h\"\ngroups = [\"b\", \"a\"]\nexcept = [\"x/y\", \".z\"]\nmedia = [\"png\", \"jpeg\", \"png\"]\nnames = \"nfc\"\nreadme = true\non_bad = \"skip\"\n[[folder]]\npath = \"\"\n[listen]\nconnections = 1\nidle_seconds = 86400\nmedia_bytes = 1073741824\n")
     ≡ Ok (record {
-      bounds = record { connections = 1; idle_seconds = 86400 };
+      bounds = record { connections = 1; idle_seconds = 86400; media_bytes = 1073741824 };
       folders = record {
         file = codes "../d";
         prefix = codes "g/h";
         groups = codes "a" ∷ codes "b" ∷ [];
         except = codes "x/y" ∷ codes ".z" ∷ [];
+        media = Some (codes "png" ∷ codes "jpeg" ∷ codes "png" ∷ []);
         rules = record { is_nfc = true; readme = true; skips = true };
       }
           ∷ record {
@@ -44,6 +45,7 @@ all_keys : listening_of (codes "[[folder]]\npath = \"../d\"\nprefix = \"g/h\"\ng
             prefix = [];
             groups = [];
             except = [];
+            media = None;
             rules = record { is_nfc = false; readme = false; skips = false };
           }
           ∷ [];
@@ -114,6 +116,26 @@ an_excepted_folder_has_no_slash_behind_it : listening_of (codes "[[folder]]\npat
 unfolding toml_on_literals groups_of_names
 an_excepted_folder_has_no_slash_behind_it = refl
 
+no_array_of_extensions : listening_of (codes "[[folder]]\npath = \"d\"\nmedia = false\nnames = 1\n") ≡ Err (BadFolder 1 BadMedia)
+unfolding toml_on_literals groups_of_names
+no_array_of_extensions = refl
+
+upper_case_extension : listening_of (codes "[[folder]]\npath = \"d\"\nmedia = [\"png\", \"PNG\"]\n") ≡ Err (BadFolder 1 BadMedia)
+unfolding toml_on_literals groups_of_names
+upper_case_extension = refl
+
+no_extension : listening_of (codes "[[folder]]\npath = \"d\"\nmedia = []\n") ≡ Err (BadFolder 1 BadMedia)
+unfolding toml_on_literals groups_of_names
+no_extension = refl
+
+no_media_bytes : listening_of (codes "folder = 1\nlisten.media_bytes = 0") ≡ Err BadMediaBytes
+unfolding toml_on_literals
+no_media_bytes = refl
+
+many_media_bytes : listening_of (codes "listen.media_bytes = 1073741825") ≡ Err BadMediaBytes
+unfolding toml_on_literals
+many_media_bytes = refl
+
 bad_names : listening_of (codes "[[folder]]\npath = \"d\"\nnames = \"NFC\"\nreadme = 1\n") ≡ Err (BadFolder 1 BadNames)
 unfolding toml_on_literals groups_of_names
 bad_names = refl
@@ -141,40 +163,40 @@ beside_an_excepted_folder = refl
 
 -- ---- the paths of files
 
-in_a_folder : path_in_folder false (codes "g") (codes "a/b.md") ≡ Ok (Some (codes "g/a/b.md"))
+in_a_folder : path_in_folder false None (codes "g") (codes "a/b.md") ≡ Ok (Some (codes "g/a/b.md"))
 unfolding is_path chars
 in_a_folder = refl
 
-without_a_prefix : path_in_folder false [] (codes "b.md") ≡ Ok (Some (codes "b.md"))
+without_a_prefix : path_in_folder false None [] (codes "b.md") ≡ Ok (Some (codes "b.md"))
 unfolding is_path chars
 without_a_prefix = refl
 
-other_ending : path_in_folder false [] (codes "a.md.txt") ≡ Ok None
+other_ending : path_in_folder false None [] (codes "a.md.txt") ≡ Ok None
 other_ending = refl
 
-upper_case_ending : path_in_folder false [] (codes "a.MD") ≡ Ok None
+upper_case_ending : path_in_folder false None [] (codes "a.MD") ≡ Ok None
 upper_case_ending = refl
 
-hidden_file : path_in_folder false [] (codes "a/.md") ≡ Ok None
+hidden_file : path_in_folder false None [] (codes "a/.md") ≡ Ok None
 hidden_file = refl
 
-hidden_folder : path_in_folder false [] (codes ".git/a.md") ≡ Ok None
+hidden_folder : path_in_folder false None [] (codes ".git/a.md") ≡ Ok None
 hidden_folder = refl
 
-no_path_of_a_page : path_in_folder false [] (codes "what?.md") ≡ Err BadCharacter
+no_path_of_a_page : path_in_folder false None [] (codes "what?.md") ≡ Err BadCharacter
 unfolding is_path chars
 no_path_of_a_page = refl
 
 -- the first reason in their order, not in that of the name
-first_reason : path_in_folder false [] (127 ∷ codes "a%.md") ≡ Err BadCharacter
+first_reason : path_in_folder false None [] (127 ∷ codes "a%.md") ≡ Err BadCharacter
 unfolding is_path chars
 first_reason = refl
 
-control_character : path_in_folder false [] (codes "a" ++ 0xC2 ∷ 0x85 ∷ codes ".md") ≡ Err Control
+control_character : path_in_folder false None [] (codes "a" ++ 0xC2 ∷ 0x85 ∷ codes ".md") ≡ Err Control
 unfolding is_path chars
 control_character = refl
 
-many_parts : path_in_folder false (codes "a/b/c/d/e/f/g/h") (codes "i/j/k/l/m/n/o/p/q.md") ≡ Err ManyParts
+many_parts : path_in_folder false None (codes "a/b/c/d/e/f/g/h") (codes "i/j/k/l/m/n/o/p/q.md") ≡ Err ManyParts
 unfolding is_path chars
 many_parts = refl
 
@@ -195,6 +217,22 @@ in_another_case = refl
 a_longer_name : index_move (codes "a/xREADME.md") ≡ None
 unfolding rsplit_once
 a_longer_name = refl
+
+-- ---- media
+
+a_medium : path_in_folder false (Some (codes "png" ∷ [])) (codes "g") (codes "a/B.PNG") ≡ Ok (Some (codes "g/a/B.PNG"))
+unfolding is_path chars
+a_medium = refl
+
+no_medium_by_its_extension : path_in_folder false (Some (codes "png" ∷ [])) [] (codes "a.jpg") ≡ Ok None
+no_medium_by_its_extension = refl
+
+-- something stands before the `.`, or the file is hidden
+a_hidden_medium : path_in_folder false (Some (codes "png" ∷ [])) [] (codes "a/.png") ≡ Ok None
+a_hidden_medium = refl
+
+the_last_extension_counts : path_in_folder false (Some (codes "gz" ∷ [])) [] (codes "a.gz.xyz") ≡ Ok None
+the_last_extension_counts = refl
 
 -- ---- paths that two sources give
 

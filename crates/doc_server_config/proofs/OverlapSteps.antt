@@ -9,10 +9,11 @@ use Rattle.std.specs.Option.{option_or}
 use Rattle.std.specs.Ordering.{nat_cmp}
 use Rattle.std.proofs.lemmas.List.{map-append, take_more}
 use Rattle.std.proofs.lemmas.List.Folds.{list_any-append}
+use Rattle.doc_server_config.specs.declared.folder_pages.FolderMedium.{FolderMedium}
 use Rattle.doc_server_config.specs.declared.page_row.PageRow.{PageRow}
 use Rattle.doc_store_readers.specs.Maps.{TextMap}
 use Rattle.doc_store_readers.proofs.KeySteps.{bytes_eq_is, get_set, same_from, same_key}
-use Rattle.doc_server_config.specs.Overlaps.{first_overlap, is_among, is_twice, paths_of}
+use Rattle.doc_server_config.specs.Overlaps.{first_overlap, is_among, is_twice, media_paths, paths_of}
 use Rattle.doc_server_config.specs.OverlapSteps.{AreMarks, is_again, mark_of}
 
 one_mark : (b : Bool) → cond (b || false) (Some (cond b false false)) None ≡ cond b (Some false) None
@@ -120,3 +121,13 @@ page_marked pages n page path old new low at same are is =
     ∙ map-append (λ one. one.path) (take n pages) (page ∷ [])
     ∙ ap (λ last. paths_of (take n pages) ++ last ∷ []) (sym same)))
     (marks_more (paths_of (take n pages)) path old new are is)
+
+pub medium_marked : (media : List FolderMedium) (n : ℕ) (medium : FolderMedium) (path : List ℕ) (old new : TextMap Bool) → n < length media
+    → medium ≡ get_or media n medium → path ≡ medium.path → AreMarks (media_paths (take n media)) old
+    → new ≡ map.insert old path (map.contains_key old path) → AreMarks (media_paths (take (n + 1) media)) new
+medium_marked media n medium path old new low at same are is =
+    subst (λ paths. AreMarks paths new)
+    (sym (ap media_paths (take_more media n medium low ∙ ap (λ one. take n media ++ one ∷ []) (sym at))
+    ∙ map-append (λ one. one.path) (take n media) (medium ∷ [])
+    ∙ ap (λ last. media_paths (take n media) ++ last ∷ []) (sym same)))
+    (marks_more (media_paths (take n media)) path old new are is)

@@ -4,7 +4,7 @@ use Rattle.std.specs.Prelude.{if◌then◌else◌}
 use Rattle.toml.specs.Data.{Data, Members, get_member, as_integer, as_table}
 use Rattle.doc_server_config.specs.declared.bounds.Bounds.{Bounds}
 use Rattle.doc_server_config.specs.declared.listening.ListeningError.{ListeningError}
-use Rattle.doc_server_config.specs.declared.listening.ListeningError.TheVariants.{BadListen, BadConnections, BadIdleSeconds}
+use Rattle.doc_server_config.specs.declared.listening.ListeningError.TheVariants.{BadListen, BadConnections, BadIdleSeconds, BadMediaBytes}
 use Rattle.doc_server_config.specs.Keys.{has_only}
 
 -- a number from 1 to a bound
@@ -22,18 +22,25 @@ abbrev pub idle_seconds_at : Option Data → Option ℕ
 idle_seconds_at None = Some 30
 idle_seconds_at (Some value) = option_and_then (within 86400) (as_integer value)
 
--- bounds of these parts, the first of which comes first where both are bad
-abbrev pub bounds_with : Option ℕ → Option ℕ → Result Bounds ListeningError
-bounds_with None idle_seconds = Err BadConnections
-bounds_with (Some connections) None = Err BadIdleSeconds
-bounds_with (Some connections) (Some idle_seconds) = Ok (record { connections = connections; idle_seconds = idle_seconds })
+-- how many bytes the media of folders have together at most: the same from 1 to 1 GiB; without the key 64 MiB
+abbrev pub media_bytes_at : Option Data → Option ℕ
+media_bytes_at None = Some 67108864
+media_bytes_at (Some value) = option_and_then (within 1073741824) (as_integer value)
 
--- the bounds that a table is, which has these two keys alone
+-- bounds of these parts, the first of which comes first where several are bad
+abbrev pub bounds_with : Option ℕ → Option ℕ → Option ℕ → Result Bounds ListeningError
+bounds_with None idle_seconds media_bytes = Err BadConnections
+bounds_with (Some connections) None media_bytes = Err BadIdleSeconds
+bounds_with (Some connections) (Some idle_seconds) None = Err BadMediaBytes
+bounds_with (Some connections) (Some idle_seconds) (Some media_bytes) =
+    Ok (record { connections = connections; idle_seconds = idle_seconds; media_bytes = media_bytes })
+
+-- the bounds that a table is, which has these keys alone
 abbrev pub bounds_of : Members → Result Bounds ListeningError
 bounds_of table =
-    if has_only (codes "connections" ∷ codes "idle_seconds" ∷ []) table
+    if has_only (codes "connections" ∷ codes "idle_seconds" ∷ codes "media_bytes" ∷ []) table
     then bounds_with (connections_at (get_member (codes "connections") table))
-    (idle_seconds_at (get_member (codes "idle_seconds") table))
+    (idle_seconds_at (get_member (codes "idle_seconds") table)) (media_bytes_at (get_member (codes "media_bytes") table))
     else Err BadListen
 
 -- the bounds of what should be a table
@@ -43,7 +50,7 @@ bounds_of_table (Some table) = bounds_of table
 
 -- the bounds of what the key `listen` holds; without the key all is as without those of the table
 abbrev pub bounds_at : Option Data → Result Bounds ListeningError
-bounds_at None = Ok (record { connections = 1024; idle_seconds = 30 })
+bounds_at None = Ok (record { connections = 1024; idle_seconds = 30; media_bytes = 67108864 })
 bounds_at (Some value) = bounds_of_table (as_table value)
 
 -- the bounds of a document

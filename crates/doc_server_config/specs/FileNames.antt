@@ -1,10 +1,11 @@
 -- The paths of pages that stand in files of a folder. All of this is this project's choice.
-use Rattle.std.specs.Prelude.{ℕ, List, [], ◌∷◌, ◌++◌, length, Bool, true, not, ◌&&◌, ◌==◌, codes, Option, Some, None, Result, Ok, Err}
+use Rattle.std.specs.Prelude.{ℕ, List, [], ◌∷◌, ◌++◌, length, Bool, true, not, ◌&&◌, ◌||◌, ◌==◌, codes, Option, Some, None, Result, Ok, Err}
 use Rattle.std.specs.Prelude.{if◌then◌else◌, chars, encode_utf8_all}
 use Rattle.std.specs.List.{list_all, ends_with}
 use Rattle.unicode_normalization.specs.Forms.{nfc}
 use Rattle.doc_page_parts.specs.Paths.{is_path, segments}
 use Rattle.doc_server_config.specs.declared.reason.Reason.{Reason}
+use Rattle.doc_server_config.specs.MediaNames.{is_medium}
 use Rattle.doc_server_config.specs.Reasons.{path_reason}
 
 -- a name behind a prefix and a slash, or alone where the prefix is empty
@@ -36,6 +37,13 @@ page_path text = if is_path text then Ok (Some text) else Err (path_reason text)
 abbrev pub name_in_path : Bool → List ℕ → List ℕ
 name_in_path is_nfc name = if is_nfc then encode_utf8_all (nfc (chars name)) else name
 
--- the path of the page in the file of this name in a folder; other files are passed over
-abbrev pub path_in_folder : Bool → List ℕ → List ℕ → Result (Option (List ℕ)) Reason
-path_in_folder is_nfc prefix name = if is_page_name name then page_path (joined prefix (name_in_path is_nfc name)) else Ok None
+-- whether a file of this name is a medium: it isn't hidden, and its name has one of the extensions
+abbrev pub is_medium_name : Option (List (List ℕ)) → List ℕ → Bool
+is_medium_name media name = is_shown name && is_medium media name
+
+abbrev pub is_file_name : Option (List (List ℕ)) → List ℕ → Bool
+is_file_name media name = is_page_name name || is_medium_name media name
+
+-- the path of the page or the medium in the file of this name in a folder; other files are passed over
+abbrev pub path_in_folder : Bool → Option (List (List ℕ)) → List ℕ → List ℕ → Result (Option (List ℕ)) Reason
+path_in_folder is_nfc media prefix name = if is_file_name media name then page_path (joined prefix (name_in_path is_nfc name)) else Ok None

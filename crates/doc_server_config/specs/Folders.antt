@@ -6,19 +6,20 @@ use Rattle.doc_store_readers.specs.Readers.{groups_at}
 use Rattle.doc_server_config.specs.declared.folder.Folder.{Folder}
 use Rattle.doc_server_config.specs.declared.folder.FolderFault.{FolderFault}
 use Rattle.doc_server_config.specs.declared.folder_rules.FolderRules.{FolderRules}
-use Rattle.doc_server_config.specs.declared.folder.FolderFault.TheVariants.{OtherKey, BadFile, BadPrefix, BadGroups, BadExcept}
+use Rattle.doc_server_config.specs.declared.folder.FolderFault.TheVariants.{OtherKey, BadFile, BadPrefix, BadGroups, BadExcept, BadMedia}
 use Rattle.doc_server_config.specs.declared.listening.ListeningError.{ListeningError}
 use Rattle.doc_server_config.specs.declared.listening.ListeningError.TheVariants.{BadFolder}
 use Rattle.doc_server_config.specs.Excepted.{except_at}
 use Rattle.doc_server_config.specs.FileNames.{is_prefix}
 use Rattle.doc_server_config.specs.FolderRules.{rules_of}
 use Rattle.doc_server_config.specs.Keys.{has_only}
+use Rattle.doc_server_config.specs.MediaNames.{media_at}
 
 -- whether a table has another key than these
 abbrev pub has_other_key_in : Option Members → Bool
 has_other_key_in None = false
 has_other_key_in (Some table) =
-    not (has_only (codes "except" ∷ codes "groups" ∷ codes "names" ∷ codes "on_bad" ∷ codes "path" ∷ codes "prefix" ∷ codes "readme" ∷ [])
+    not (has_only (codes "except" ∷ codes "groups" ∷ codes "media" ∷ codes "names" ∷ codes "on_bad" ∷ codes "path" ∷ codes "prefix" ∷ codes "readme" ∷ [])
     table)
 
 abbrev pub has_other_key : Data → Bool
@@ -39,21 +40,22 @@ prefix_at (Some value) = option_and_then good_prefix (as_str value)
 
 -- a folder of these parts, or its first fault
 abbrev pub folder_with : Option (List ℕ) → Option (List ℕ) → Option (List (List ℕ)) → Option (List (List ℕ))
-    → Result FolderRules FolderFault → Result Folder FolderFault
-folder_with None prefix groups except rules = Err BadFile
-folder_with (Some file) None groups except rules = Err BadPrefix
-folder_with (Some file) (Some prefix) None except rules = Err BadGroups
-folder_with (Some file) (Some prefix) (Some groups) None rules = Err BadExcept
-folder_with (Some file) (Some prefix) (Some groups) (Some except) (Err fault) = Err fault
-folder_with (Some file) (Some prefix) (Some groups) (Some except) (Ok rules) =
-    Ok (record { file = file; prefix = prefix; groups = groups; except = except; rules = rules })
+    → Option (Option (List (List ℕ))) → Result FolderRules FolderFault → Result Folder FolderFault
+folder_with None prefix groups except media rules = Err BadFile
+folder_with (Some file) None groups except media rules = Err BadPrefix
+folder_with (Some file) (Some prefix) None except media rules = Err BadGroups
+folder_with (Some file) (Some prefix) (Some groups) None media rules = Err BadExcept
+folder_with (Some file) (Some prefix) (Some groups) (Some except) None rules = Err BadMedia
+folder_with (Some file) (Some prefix) (Some groups) (Some except) (Some media) (Err fault) = Err fault
+folder_with (Some file) (Some prefix) (Some groups) (Some except) (Some media) (Ok rules) =
+    Ok (record { file = file; prefix = prefix; groups = groups; except = except; media = media; rules = rules })
 
 -- the folder that a table is, or its first fault
 abbrev pub folder_of : Data → Result Folder FolderFault
 folder_of row =
     if has_other_key row then Err OtherKey
     else folder_with (file_at (get (codes "path") row)) (prefix_at (get (codes "prefix") row)) (groups_at (get (codes "groups") row))
-    (except_at (get (codes "except") row)) (rules_of row)
+    (except_at (get (codes "except") row)) (media_at (get (codes "media") row)) (rules_of row)
 
 -- the folders found so far, then those of more tables, the first of which has the number n
 abbrev pub folders_from : List Folder → ℕ → Items → Result (List Folder) ListeningError

@@ -6,6 +6,7 @@ pub mod Bounds
 pub mod BoundSteps
 pub mod Excepted
 pub mod FileNames
+pub mod MediaNames
 pub mod Folders
 pub mod FolderRules
 pub mod Readmes

@@ -35,31 +35,33 @@ front_with (Some skip_bom) (Some matter) = Some (record { skip_bom = skip_bom; f
 abbrev pub front_of_table : Members → Option FrontRules
 front_of_table table = front_with (flag_at (get_member (codes "skip_bom") table)) (matter_at (get_member (codes "front_matter") table))
 
--- ---- extensions
+-- ---- extensions, and what pages tell
 
--- no extension of CommonMark
+-- no extension of CommonMark, and no image is told
 abbrev pub no_options : Options
-no_options = record { tables = false; strikethrough = false; tasks = false; bare_links = false }
+no_options = record { tables = false; strikethrough = false; tasks = false; bare_links = false; images = false }
 
--- the extensions of these parts, where all are good
-abbrev pub options_with : Option Bool → Option Bool → Option Bool → Option Bool → Option Options
-options_with None strikethrough tasks bare_links = None
-options_with (Some tables) None tasks bare_links = None
-options_with (Some tables) (Some strikethrough) None bare_links = None
-options_with (Some tables) (Some strikethrough) (Some tasks) None = None
-options_with (Some tables) (Some strikethrough) (Some tasks) (Some bare_links) =
-    Some (record { tables = tables; strikethrough = strikethrough; tasks = tasks; bare_links = bare_links })
+-- the options of these parts, where all are good
+abbrev pub options_with : Option Bool → Option Bool → Option Bool → Option Bool → Option Bool → Option Options
+options_with None strikethrough tasks bare_links images = None
+options_with (Some tables) None tasks bare_links images = None
+options_with (Some tables) (Some strikethrough) None bare_links images = None
+options_with (Some tables) (Some strikethrough) (Some tasks) None images = None
+options_with (Some tables) (Some strikethrough) (Some tasks) (Some bare_links) None = None
+options_with (Some tables) (Some strikethrough) (Some tasks) (Some bare_links) (Some images) =
+    Some (record { tables = tables; strikethrough = strikethrough; tasks = tasks; bare_links = bare_links; images = images })
 
--- the extensions of CommonMark that a table names
+-- the extensions of CommonMark that a table names, and whether images are told
 abbrev pub options_of_table : Members → Option Options
 options_of_table table =
     options_with (flag_at (get_member (codes "tables") table)) (flag_at (get_member (codes "strikethrough") table))
     (flag_at (get_member (codes "tasks") table)) (flag_at (get_member (codes "bare_links") table))
+    (flag_at (get_member (codes "check_images") table))
 
 -- ---- the table
 
 abbrev pub keys : List (List ℕ)
-keys = codes "bare_links" ∷ codes "front_matter" ∷ codes "skip_bom" ∷ codes "strikethrough" ∷ codes "tables" ∷ codes "tasks" ∷ []
+keys = codes "bare_links" ∷ codes "check_images" ∷ codes "front_matter" ∷ codes "skip_bom" ∷ codes "strikethrough" ∷ codes "tables" ∷ codes "tasks" ∷ []
 
 -- what is read of these parts, where both are good
 abbrev pub markdown_with : Option FrontRules → Option Options → Option Markdown
@@ -71,7 +73,7 @@ markdown_with (Some front) (Some options) = Some (record { front = front; option
 abbrev pub markdown_of_table : Members → Option Markdown
 markdown_of_table table = if has_only keys table then markdown_with (front_of_table table) (options_of_table table) else None
 
--- texts are read as they stand, by CommonMark alone
+-- texts are read as they stand, by CommonMark alone, and no image is told
 abbrev pub plain : Markdown
 plain = record { front = none; options = no_options }
 

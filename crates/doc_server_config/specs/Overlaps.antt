@@ -2,11 +2,16 @@
 use Rattle.std.specs.Prelude.{ℕ, List, [], ◌∷◌, map, Bool, false, bytes_eq, Option, if◌then◌else◌}
 use Rattle.std.specs.List.{find, list_any}
 use Rattle.std.specs.Option.{option_or}
+use Rattle.doc_server_config.specs.declared.folder_pages.FolderMedium.{FolderMedium}
 use Rattle.doc_server_config.specs.declared.page_row.PageRow.{PageRow}
 
 -- the paths of some pages
 abbrev pub paths_of : List PageRow → List (List ℕ)
 paths_of pages = map (λ page. page.path) pages
+
+-- the paths of some media
+abbrev pub media_paths : List FolderMedium → List (List ℕ)
+media_paths media = map (λ medium. medium.path) media
 
 -- whether a path is among some
 abbrev pub is_among : List (List ℕ) → List ℕ → Bool

@@ -5,7 +5,7 @@ use Rattle.std.specs.Str.{chars}
 use Rattle.doc_page_parts.specs.Paths.{is_control, segments}
 use Rattle.doc_server_config.specs.declared.reason.Reason.{Reason}
 use Rattle.doc_server_config.specs.declared.reason.Reason.TheVariants.{BadCharacter, Control, ManyParts, LongPath, Absent, Denied, IsFolder}
-use Rattle.doc_server_config.specs.declared.reason.Reason.TheVariants.{Unread, LongPage, NoText, PathOf, ManyPages}
+use Rattle.doc_server_config.specs.declared.reason.Reason.TheVariants.{Unread, LongPage, NoText, LongMedium, PathOf, ManyPages, ManyMedia, MuchMedia}
 
 -- none of `\`, `%`, `?` and `#`
 abbrev pub is_plain_char : ℕ → Bool
@@ -31,4 +31,7 @@ is_of_path Unread = false
 is_of_path LongPage = false
 is_of_path NoText = false
 is_of_path (PathOf name) = false
+is_of_path LongMedium = false
 is_of_path ManyPages = false
+is_of_path ManyMedia = false
+is_of_path (MuchMedia bytes) = false

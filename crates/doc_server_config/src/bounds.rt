@@ -16,11 +16,17 @@ const CONNECTIONS: u32 = 1_024;
 /// After how many seconds without a byte a connection ends, where a configuration doesn't say.
 const IDLE_SECONDS: u32 = 30;
 
+/// How many bytes the media of folders may have together, where a configuration doesn't say.
+const MEDIA_BYTES: u32 = 67_108_864;
+
 /// How many connections may be asked for.
 const MOST_CONNECTIONS: u32 = 65_535;
 
 /// How many seconds may be asked for: a day.
 const MOST_SECONDS: u32 = 86_400;
+
+/// How many bytes of media may be asked for: 1 GiB.
+const MOST_MEDIA_BYTES: u32 = 1_073_741_824;
 
 /// The bounds of a server that runs.
 #[derive(Clone, Copy)]
@@ -29,6 +35,8 @@ pub struct Bounds {
     pub connections: usize,
     /// After how many seconds without a byte a connection ends.
     pub idle_seconds: u64,
+    /// How many bytes the media of folders have together at most.
+    pub media_bytes: usize,
 }
 
 /// The bounds of a document, or the first refusal.
@@ -39,6 +47,7 @@ pub(crate) fn bounds_in(document: &Table) -> Result<Bounds, ListeningError>
         return Ok(Bounds {
             connections: CONNECTIONS as usize,
             idle_seconds: IDLE_SECONDS as u64,
+            media_bytes: MEDIA_BYTES as usize,
         });
     };
     match value.as_table() {
@@ -51,7 +60,7 @@ pub(crate) fn bounds_in(document: &Table) -> Result<Bounds, ListeningError>
 fn bounds_of(table: &Table) -> Result<Bounds, ListeningError>
     ensures { result ≡ bounds_of (table_view table.now) }
 {
-    if !has_only(table, &["connections", "idle_seconds"]) {
+    if !has_only(table, &["connections", "idle_seconds", "media_bytes"]) {
         return Err(ListeningError::BadListen);
     }
     let Some(connections) = number_at(table, "connections", MOST_CONNECTIONS, CONNECTIONS) else {
@@ -60,9 +69,13 @@ fn bounds_of(table: &Table) -> Result<Bounds, ListeningError>
     let Some(idle_seconds) = number_at(table, "idle_seconds", MOST_SECONDS, IDLE_SECONDS) else {
         return Err(ListeningError::BadIdleSeconds);
     };
+    let Some(media_bytes) = number_at(table, "media_bytes", MOST_MEDIA_BYTES, MEDIA_BYTES) else {
+        return Err(ListeningError::BadMediaBytes);
+    };
     Ok(Bounds {
         connections: connections as usize,
         idle_seconds: idle_seconds as u64,
+        media_bytes: media_bytes as usize,
     })
 }
 

@@ -72,8 +72,8 @@ pub struct SiteConfig {
 impl SiteConfig {
     /// The configuration that a TOML 1.1 document is: `keep_alive` (a boolean, else true), `cache` (1
     /// to 4,096, else 64), `entities` (the name of a file), the table `markdown` with none but `bare_links`,
-    /// `skip_bom`, `strikethrough`, `tables` and `tasks` (booleans, else false) and `front_matter` (`skip`
-    /// or `title`), the readers of its array `reader`, and its array `page`, each with a `path`, `groups`
+    /// `check_images`, `skip_bom`, `strikethrough`, `tables` and `tasks` (booleans, else false) and
+    /// `front_matter` (`skip` or `title`), the readers of its array `reader`, and its array `page`, each with a `path`, `groups`
     /// (an array of names, else none) and either `text` or `file`. Other keys are ignored. Refusals come in
     /// the order of [`ConfigError`], but that `Memory` may be answered before another one is found.
     pub fn from_toml(heap: Heap, text: &str) -> Result<SiteConfig, ConfigError>

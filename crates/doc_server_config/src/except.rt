@@ -54,7 +54,8 @@ fn are_folder_names(names: &[&str]) -> bool
     true
 }
 
-fn copies_of(heap: Heap, names: &[&str]) -> Result<List<Text>, Memory>
+/// Copies of some texts.
+pub(crate) fn copies_of(heap: Heap, names: &[&str]) -> Result<List<Text>, Memory>
     ensures { IfOk result (λ copies. copies ≡ texts_of names.now) }
 {
     let mut copies = Vec::with_capacity(heap, names.len()).map_err(Memory::from)?;

@@ -1,26 +1,30 @@
 //! The paths of pages that stand in files of a folder.
 
 ghost use Rattle.std.specs.Prelude.{◌≡◌, IfOk, string_bytes};
-ghost use Rattle.doc_server_config.specs.FileNames.{is_page_name, is_prefix, is_shown, is_shown_part, joined, name_in_path, page_path, path_in_folder};
+ghost use Rattle.doc_server_config.specs.FileNames.{is_file_name, is_medium_name, is_page_name, is_prefix, is_shown, is_shown_part, joined, name_in_path, page_path, path_in_folder};
 
+use crate::media_names::is_medium;
 use crate::reason::{Reason, path_reason};
 use doc_page_parts::failure::Memory;
 use doc_page_parts::heap::{Heap, String};
+use doc_page_parts::list::List;
 use doc_page_parts::path::{Path, PathError};
+use doc_page_parts::text::Text;
 use unicode_normalization::to_nfc;
 
-/// The path of the page in a file of a folder, of the folder's prefix and of the file's name in it, with `/` between a folder in the
+/// The path of the page or the medium in a file of a folder, of the folder's prefix and of the file's name in it, with `/` between a folder in the
 /// folder and what stands there. The name is normalised where this is asked for. `None` says that the file is passed over: a part of its
-/// name begins with `.`, or the name doesn't end in `.md`. A reason says that the name makes no path of a page.
+/// name begins with `.`, or the name neither ends in `.md` nor has one of the extensions. A reason says that the name makes no path.
 pub fn path_in_folder(
     heap: Heap,
     is_nfc: bool,
+    media: &Option<List<Text>>,
     prefix: &str,
     name: &str,
 ) -> Result<Result<Option<Path>, Reason>, Memory>
-    ensures { IfOk result (λ path. path ≡ path_in_folder is_nfc prefix.now name.now) }
+    ensures { IfOk result (λ path. path ≡ path_in_folder is_nfc media.now prefix.now name.now) }
 {
-    if !is_page_name(name) {
+    if !is_file_name(media, name) {
         return Ok(Ok(None));
     }
     let name = name_in_path(heap, is_nfc, name)?;
@@ -71,8 +75,22 @@ pub(crate) fn joined(heap: Heap, prefix: &str, name: &str) -> Result<String, Mem
     Ok(format!(in heap; "{prefix}/{name}")?)
 }
 
+/// Whether a file of this name is a page or a medium.
+fn is_file_name(media: &Option<List<Text>>, name: &str) -> bool
+    ensures { result ≡ is_file_name media.now name.now }
+{
+    is_page_name(name) || is_medium_name(media, name)
+}
+
+/// Whether a file of this name is a medium.
+pub(crate) fn is_medium_name(media: &Option<List<Text>>, name: &str) -> bool
+    ensures { result ≡ is_medium_name media.now name.now }
+{
+    is_shown(name) && is_medium(media, name)
+}
+
 /// Whether a file of this name is a page.
-fn is_page_name(name: &str) -> bool
+pub(crate) fn is_page_name(name: &str) -> bool
     ensures { result ≡ is_page_name name.now }
 {
     is_shown(name) && name.as_bytes().ends_with(b".md")

@@ -10,6 +10,7 @@ use crate::file_name::is_prefix;
 use crate::folder_rules::{FolderRules, rules_of};
 use crate::growth::push;
 use crate::listening::ListeningError;
+use crate::media_names::media_in;
 use crate::table::has_only;
 use doc_page_parts::failure::Memory;
 use doc_page_parts::heap::{Heap, String, Vec};
@@ -22,13 +23,13 @@ use toml::Value;
 
 /// The keys of a folder.
 const KEYS: &[&str] = &[
-    "except", "groups", "names", "on_bad", "path", "prefix", "readme",
+    "except", "groups", "media", "names", "on_bad", "path", "prefix", "readme",
 ];
 
 /// Why a table is no folder.
 #[derive(Clone, Copy, Debug)]
 pub enum FolderFault {
-    /// It has a key other than `path`, `prefix`, `groups`, `except`, `names`, `readme` and `on_bad`.
+    /// It has a key other than `path`, `prefix`, `groups`, `except`, `media`, `names`, `readme` and `on_bad`.
     OtherKey,
     /// `path` isn't there, or no string.
     BadFile,
@@ -38,6 +39,8 @@ pub enum FolderFault {
     BadGroups,
     /// `except` is no array of names of folders.
     BadExcept,
+    /// `media` is neither `true` nor an array of extensions of media.
+    BadMedia,
     /// `names` isn't `nfc`.
     BadNames,
     /// `readme` is no boolean.
@@ -54,6 +57,7 @@ impl fmt::Display for FolderFault {
             FolderFault::BadPrefix => "`prefix` is bad",
             FolderFault::BadGroups => "`groups` is bad",
             FolderFault::BadExcept => "`except` is bad",
+            FolderFault::BadMedia => "`media` is bad",
             FolderFault::BadNames => "`names` is bad",
             FolderFault::BadReadme => "`readme` is bad",
             FolderFault::BadOnBad => "`on_bad` is bad",
@@ -72,6 +76,8 @@ pub struct Folder {
     pub groups: Groups,
     /// The names of the folders in it that are passed over, with all that stands below them.
     pub except: List<Text>,
+    /// The extensions of the files that are media, in lower case, where there are media.
+    pub media: Option<List<Text>>,
     pub rules: FolderRules,
 }
 
@@ -110,12 +116,16 @@ fn folder_of(heap: Heap, table: &Value) -> Result<Result<Folder, FolderFault>, M
     let Some(except) = except_in(heap, table)? else {
         return Ok(Err(FolderFault::BadExcept));
     };
+    let Some(media) = media_in(heap, table)? else {
+        return Ok(Err(FolderFault::BadMedia));
+    };
     match rules_of(table) {
         Ok(rules) => Ok(Ok(Folder {
             file,
             prefix,
             groups,
             except,
+            media,
             rules,
         })),
         Err(fault) => Ok(Err(fault)),

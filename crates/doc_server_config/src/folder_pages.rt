@@ -1,20 +1,24 @@
-//! The pages of a folder.
+//! The pages and the media of a folder.
 
-ghost use Rattle.std.specs.Prelude.{◌≡◌, ◌≤◌, false, Ok, Some, IfErr, IfOk, IfSome, OnOk, length};
+ghost use Rattle.std.specs.Prelude.{◌≡◌, ◌≤◌, false, true, Ok, Some, IfErr, IfOk, IfSome, OnOk, length};
 ghost use Rattle.std.specs.List.{All};
+ghost use Rattle.doc_media.specs.Held.{medium_limit};
 ghost use Rattle.doc_store.specs.Store.{text_limit};
 ghost use Rattle.doc_server_config.specs.Excepted.{is_excepted};
-ghost use Rattle.doc_server_config.specs.FolderPages.{IsFileOf, IsPageOf, MaySay, path_in};
+ghost use Rattle.doc_server_config.specs.FolderPages.{IsFileOf, MaySay, path_in};
+ghost use Rattle.doc_server_config.specs.FileNames.{is_page_name};
 ghost use Rattle.doc_server_config.specs.Reasons.{is_of_path};
 
 use crate::bad_file::BadFile;
 use crate::except::is_excepted;
-use crate::file_name::path_in_folder;
+use crate::file_name::{is_page_name, path_in_folder};
 use crate::folder::Folder;
 use crate::growth::push;
 use crate::reason::{Reason, open_reason};
 use crate::taken::Taken;
 use crate::walk::{check_folders, files_in, joined};
+use doc_media::kind::MediaKind;
+use doc_page_parts::bytes::Bytes;
 use doc_page_parts::failure::Memory;
 use doc_page_parts::heap::{Heap, String, Vec};
 use doc_page_parts::list::List;
@@ -31,6 +35,9 @@ use std::rt::Files;
 /// How many bytes the text of a page may have.
 const TEXT_LIMIT: usize = 1_048_576;
 
+/// How many bytes a medium may have.
+const MEDIUM_LIMIT: usize = 8_388_608;
+
 /// A page of a folder.
 #[derive(Drop)]
 pub struct FolderPage {
@@ -39,14 +46,25 @@ pub struct FolderPage {
     pub text: Text,
 }
 
+/// A medium of a folder.
+#[derive(Drop)]
+pub struct FolderMedium {
+    pub path: Path,
+    pub groups: Groups,
+    pub kind: MediaKind,
+    pub bytes: Bytes,
+}
+
 /// What a file of a folder is that isn't passed over by its name.
 #[derive(Drop)]
 pub enum FolderFile {
     Page(FolderPage),
+    Medium(FolderMedium),
     Bad(BadFile),
 }
 
-/// The files of a folder, in the order of their names: each regular file in it and below whose name ends in `.md`. Names that begin
+/// The files of a folder, in the order of their names: each regular file in it and below whose name ends in `.md`, or has an extension
+/// of its media. Names that begin
 /// with `.`, links, and the folders that it excepts are passed over. `CannotRead` names a folder that can't be read, or an excepted one
 /// that isn't there. Which files a folder has no clause says, and of a refusal nothing. What its pages take is noted.
 pub fn read_folder<R: AllocGlobal + Files + Clone + Drop>(
@@ -58,7 +76,7 @@ pub fn read_folder<R: AllocGlobal + Files + Clone + Drop>(
     ensures { IfOk result (λ files. All (IsFileOf folder.now) files) }
 {
     let (root, except) = (folder.file.get(), folder.except.get());
-    let names = files_in(rt, heap, root, except)?;
+    let names = files_in(rt, heap, folder)?;
     check_folders(rt, heap, root, except)?;
     taken.begin_folder();
     let mut files = Vec::new(heap);
@@ -100,9 +118,8 @@ fn file_of<R: AllocGlobal + Files + Clone + Drop>(
     requires { is_excepted folder.now.except file.now ≡ false }
     ensures { IfOk result (λ found. IfSome found (IsFileOf folder.now)) }
 {
-    match page_of(rt, heap, folder, file, taken)? {
-        Ok(None) => Ok(None),
-        Ok(Some(page)) => Ok(Some(FolderFile::Page(page))),
+    match taken_file(rt, heap, folder, file, taken)? {
+        Ok(found) => Ok(found),
         Err(reason) => {
             let bad = BadFile::new(heap, folder, file, reason)?;
             Ok(Some(FolderFile::Bad(bad)))
@@ -110,32 +127,39 @@ fn file_of<R: AllocGlobal + Files + Clone + Drop>(
     }
 }
 
-/// The page in a file, or why it has none; nothing where the file is passed over.
-fn page_of<R: AllocGlobal + Files + Clone + Drop>(
+/// The page or the medium in a file, or why it has none; nothing where the file is passed over.
+fn taken_file<R: AllocGlobal + Files + Clone + Drop>(
     rt: &R,
     heap: Heap,
     folder: &Folder,
     file: &str,
     taken: &mut Taken,
-) -> Result<Result<Option<FolderPage>, Reason>, Memory>
+) -> Result<Result<Option<FolderFile>, Reason>, Memory>
     requires { is_excepted folder.now.except file.now ≡ false }
-    ensures page { IfOk result
-        (λ found. IfOk found (λ page. IfSome page (IsPageOf folder.now))) }
+    ensures file { IfOk result
+        (λ found. IfOk found (λ file. IfSome file (IsFileOf folder.now))) }
     ensures reason { IfOk result
         (λ found. IfErr found (MaySay (path_in folder.now file.now))) }
 {
     match path_in(heap, folder, file)? {
-        Ok(Some(path)) => page_at(rt, heap, folder, path, file, taken),
+        Ok(Some(path)) if is_page_name(file) => page_at(rt, heap, folder, path, file, taken),
+        Ok(Some(path)) => medium_at(rt, heap, folder, path, file, taken),
         Ok(None) => Ok(Ok(None)),
         Err(reason) => Ok(Err(reason)),
     }
 }
 
-/// The path of the page in a file, or why it makes none; nothing where the file is passed over.
+/// The path of the page or the medium in a file, or why it makes none; nothing where the file is passed over.
 fn path_in(heap: Heap, folder: &Folder, file: &str) -> Result<Result<Option<Path>, Reason>, Memory>
     ensures { IfOk result (λ path. path ≡ path_in folder.now file.now) }
 {
-    path_in_folder(heap, folder.rules.is_nfc, folder.prefix.get(), file)
+    path_in_folder(
+        heap,
+        folder.rules.is_nfc,
+        &folder.media,
+        folder.prefix.get(),
+        file,
+    )
 }
 
 /// The page in a file, which stands under this path.
@@ -146,11 +170,12 @@ fn page_at<R: AllocGlobal + Files + Clone + Drop>(
     path: Path,
     file: &str,
     taken: &mut Taken,
-) -> Result<Result<Option<FolderPage>, Reason>, Memory>
+) -> Result<Result<Option<FolderFile>, Reason>, Memory>
     requires inside { is_excepted folder.now.except file.now ≡ false }
     requires path { path_in folder.now file.now ≡ Ok (Some path) }
-    ensures page { IfOk result
-        (λ found. IfOk found (λ page. IfSome page (IsPageOf folder.now))) }
+    requires page { is_page_name file.now ≡ true }
+    ensures file { IfOk result
+        (λ found. IfOk found (λ file. IfSome file (IsFileOf folder.now))) }
     ensures reason { IfOk result
         (λ found. IfErr found (λ reason. is_of_path reason ≡ false)) }
 {
@@ -163,7 +188,65 @@ fn page_at<R: AllocGlobal + Files + Clone + Drop>(
         return Ok(Err(reason));
     }
     let groups = folder.groups.copy(heap)?;
-    Ok(Ok(Some(FolderPage { path, groups, text })))
+    Ok(Ok(Some(FolderFile::Page(FolderPage { path, groups, text }))))
+}
+
+/// The medium in a file, which stands under this path. Its name has one of the folder's extensions, and so names a kind.
+fn medium_at<R: AllocGlobal + Files + Clone + Drop>(
+    rt: &R,
+    heap: Heap,
+    folder: &Folder,
+    path: Path,
+    file: &str,
+    taken: &mut Taken,
+) -> Result<Result<Option<FolderFile>, Reason>, Memory>
+    requires inside { is_excepted folder.now.except file.now ≡ false }
+    requires path { path_in folder.now file.now ≡ Ok (Some path) }
+    ensures file { IfOk result
+        (λ found. IfOk found (λ file. IfSome file (IsFileOf folder.now))) }
+    ensures reason { IfOk result
+        (λ found. IfErr found (λ reason. is_of_path reason ≡ false)) }
+{
+    let Some(kind) = MediaKind::of(&path) else {
+        return Ok(Ok(None));
+    };
+    let name = joined(heap, folder.file.get(), file)?;
+    let bytes = match read_medium(rt, heap, name.as_str())? {
+        Ok(bytes) => bytes,
+        Err(reason) => return Ok(Err(reason)),
+    };
+    let count = bytes.get().len();
+    if let Err(reason) = taken.take_medium(folder.rules.is_nfc, &path, name.as_str(), count)? {
+        return Ok(Err(reason));
+    }
+    Ok(Ok(Some(FolderFile::Medium(FolderMedium {
+        path,
+        groups: folder.groups.copy(heap)?,
+        kind,
+        bytes,
+    }))))
+}
+
+/// The bytes of a file, or why it has none that a medium may have.
+#[tactic(auto, unfolding(doc_media::specs::Held::medium_limit))]
+fn read_medium<R: AllocGlobal + Files>(
+    rt: &R,
+    heap: Heap,
+    name: &str,
+) -> Result<Result<Bytes, Reason>, Memory>
+    ensures bytes { IfOk result (λ read. IfOk read (λ bytes. length bytes ≤ medium_limit)) }
+    ensures reason { IfOk result (λ read. IfErr read (λ reason. is_of_path reason ≡ false)) }
+{
+    let file = match File::open(rt, name) {
+        Ok(file) => file,
+        Err(e) => return Ok(Err(open_reason(e.kind()))),
+    };
+    match read_whole(heap, name, &mut ReadFrom::new(file), MEDIUM_LIMIT) {
+        Ok(bytes) => Ok(Ok(Bytes::new(bytes))),
+        Err(Fault::Memory) => Err(Memory),
+        Err(Fault::Refused) => Ok(Err(Reason::LongMedium)),
+        Err(_) => Ok(Err(read_reason(rt, name))),
+    }
 }
 
 /// The text of a file, or why it has none that a page may have.

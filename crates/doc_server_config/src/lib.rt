@@ -21,6 +21,7 @@ pub mod folder_rules;
 mod growth;
 pub mod listening;
 pub mod markdown;
+mod media_names;
 pub mod overlap;
 pub mod page_row;
 pub mod readme;

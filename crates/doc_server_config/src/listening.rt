@@ -20,7 +20,7 @@ pub enum ListeningError {
     /// The text is no TOML document.
     #[error("no TOML")]
     BadToml,
-    /// `listen` is no table, or has a key other than `connections` and `idle_seconds`.
+    /// `listen` is no table, or has a key other than `connections`, `idle_seconds` and `media_bytes`.
     #[error("`listen` is bad")]
     BadListen,
     /// `connections` is no integer from 1 to 65,535.
@@ -29,6 +29,9 @@ pub enum ListeningError {
     /// `idle_seconds` is no integer from 1 to 86,400.
     #[error("`idle_seconds` is bad")]
     BadIdleSeconds,
+    /// `media_bytes` is no integer from 1 to 1,073,741,824.
+    #[error("`media_bytes` is bad")]
+    BadMediaBytes,
     /// `folder` is no array of tables.
     #[error("`folder` is bad")]
     BadFolders,
@@ -53,7 +56,7 @@ impl From<Memory> for ListeningError {
 /// What `listen` goes by.
 #[derive(Drop)]
 pub struct Listening {
-    /// At most 65,535 connections, and a day without a byte.
+    /// At most 65,535 connections, a day without a byte, and 1 GiB of media.
     pub bounds: Bounds,
     /// The folders in their order.
     pub folders: List<Folder>,
@@ -61,9 +64,10 @@ pub struct Listening {
 
 impl Listening {
     /// What `listen` goes by, of a TOML 1.1 document: its table `listen` with `connections` (1 to 65,535,
-    /// else 1,024) and `idle_seconds` (1 to 86,400, else 30), and its array `folder`, each with a `path`,
-    /// a `prefix` (else none), `groups` (an array of names, else none) and `except` (an array of names
-    /// of folders in it, else none). These tables have no other keys; those of the document are not its
+    /// else 1,024), `idle_seconds` (1 to 86,400, else 30) and `media_bytes` (1 to 1,073,741,824, else
+    /// 67,108,864), and its array `folder`, each with a `path`, a `prefix` (else none), `groups` (an array
+    /// of names, else none), `except` (an array of names of folders in it, else none), and what says how
+    /// its files are taken ([`Folder`]). These tables have no other keys; those of the document are not its
     /// concern. Refusals come in the order of [`ListeningError`], but that `Memory` may be answered
     /// before another one is found.
     pub fn from_toml(heap: Heap, text: &str) -> Result<Listening, ListeningError>

@@ -16,12 +16,12 @@ use toml::Table;
 pub struct Markdown {
     /// What is cut of their fronts.
     pub front: FrontRules,
-    /// The extensions of CommonMark that are read.
+    /// The extensions of CommonMark that are read, and whether images are told.
     pub options: Options,
 }
 
 impl Markdown {
-    /// Texts are read as they stand, by CommonMark alone.
+    /// Texts are read as they stand, by CommonMark alone, and no image is told.
     pub fn plain() -> Self
         ensures { result ≡ plain }
     {
@@ -32,9 +32,9 @@ impl Markdown {
     }
 }
 
-/// How texts are read: what the table `markdown` says by the booleans `bare_links`, `skip_bom`, `strikethrough`, `tables` and `tasks`
-/// (else `false`) and by `front_matter` (`skip` or `title`, else front matter is text). `None` says that it is no table, has another
-/// key, or holds what it may not.
+/// How texts are read: what the table `markdown` says by the booleans `bare_links`, `check_images`, `skip_bom`, `strikethrough`,
+/// `tables` and `tasks` (else `false`) and by `front_matter` (`skip` or `title`, else front matter is text). `None` says that it is no
+/// table, has another key, or holds what it may not.
 pub(crate) fn markdown_in(document: &Table) -> Option<Markdown>
     ensures { result ≡ markdown_at (get_member (codes "markdown") (table_view document.now)) }
 {
@@ -51,6 +51,7 @@ fn markdown_of_table(table: &Table) -> Option<Markdown>
         table,
         &[
             "bare_links",
+            "check_images",
             "front_matter",
             "skip_bom",
             "strikethrough",
@@ -83,11 +84,13 @@ fn options_of_table(table: &Table) -> Option<Options>
     let strikethrough = flag_in(table, "strikethrough")?;
     let tasks = flag_in(table, "tasks")?;
     let bare_links = flag_in(table, "bare_links")?;
+    let images = flag_in(table, "check_images")?;
     Some(Options {
         tables,
         strikethrough,
         tasks,
         bare_links,
+        images,
     })
 }
 

@@ -3,9 +3,10 @@
 ghost use Rattle.std.specs.Prelude.{◌≡◌, IfOk, OnOk, option_copied};
 ghost use Rattle.std.specs.FinMap as map;
 ghost use Rattle.std.specs.List.{find};
-ghost use Rattle.doc_server_config.specs.Overlaps.{first_overlap, paths_of};
+ghost use Rattle.doc_server_config.specs.Overlaps.{first_overlap, media_paths, paths_of};
 ghost use Rattle.doc_server_config.specs.OverlapSteps.{AreMarks, is_again};
 
+use crate::folder_pages::FolderMedium;
 use crate::page_row::PageRow;
 use doc_page_parts::failure::Memory;
 use doc_page_parts::heap::{BTreeMap, Heap};
@@ -107,6 +108,30 @@ impl Marks {
         }
         None
     }
+
+    /// Those of the paths of these media.
+    fn of_media(heap: Heap, media: &[FolderMedium]) -> Result<Marks, Memory>
+        ensures { IfOk result (λ marks. AreMarks (media_paths media.now) marks) }
+    {
+        let mut marks = Marks::none(heap);
+        for medium in media {
+            marks.add(medium.path.copy(heap)?)?;
+        }
+        Ok(marks)
+    }
+
+    /// The first path of some media that came again.
+    fn first_medium_again<'a>(&self, media: &'a [FolderMedium]) -> Option<&'a Path>
+        ensures { option_copied result
+            ≡ find (λ path. is_again (map.get self.now path)) (media_paths media.now) }
+    {
+        for medium in media {
+            if self.is_again(&medium.path) {
+                return Some(&medium.path);
+            }
+        }
+        None
+    }
 }
 
 /// How many different paths some pages have.
@@ -129,5 +154,22 @@ pub fn first_overlap<'a>(
     match marks.first_of(rows) {
         Some(path) => Ok(Some(path)),
         None => Ok(marks.first_again(others)),
+    }
+}
+
+/// The first path that a row of a configuration and a medium of its folders have, or two of these media: in the order of the rows, and
+/// then of the media. A page of a folder has the path of none, by its name.
+pub fn first_medium_overlap<'a>(
+    heap: Heap,
+    rows: &'a [PageRow],
+    media: &'a [FolderMedium],
+) -> Result<Option<&'a Path>, Memory>
+    ensures { IfOk result (λ path.
+        option_copied path ≡ first_overlap (paths_of rows.now) (media_paths media.now)) }
+{
+    let media_marks = Marks::of_media(heap, media)?;
+    match media_marks.first_of(rows) {
+        Some(path) => Ok(Some(path)),
+        None => Ok(media_marks.first_medium_again(media)),
     }
 }

@@ -39,12 +39,20 @@ pub enum Reason {
     LongPage,
     #[error("not UTF-8")]
     NoText,
+    #[error("more than 8388608 bytes")]
+    LongMedium,
     /// A file of the folder before it has the same path: the one of this name.
     #[error("its path is that of {}", .0.get())]
     PathOf(Text),
     /// The site has no room for another page.
     #[error("more than 10000 pages")]
     ManyPages,
+    /// The site has no room for another medium.
+    #[error("more than 10000 media")]
+    ManyMedia,
+    /// With it the media of the site would have more bytes together than they may.
+    #[error("media of more than {0} bytes together")]
+    MuchMedia(usize),
 }
 
 /// Why a text is no path, where each of its parts could stand in one.

@@ -28,7 +28,8 @@ pub fn has_only(table: &Table, keys: &[&str]) -> bool
     true
 }
 
-fn is_one_of(key: &str, keys: &[&str]) -> bool
+/// Whether a key is one of some.
+pub(crate) fn is_one_of(key: &str, keys: &[&str]) -> bool
     ensures { result ≡ is_one_of (texts_of keys.now) key.now }
 {
     for one in keys {

@@ -1,7 +1,9 @@
 //! The files of a folder and of those below it.
 
 use crate::file_name;
+use crate::folder::Folder;
 use crate::growth::push;
+use crate::media_names::is_medium;
 use doc_page_parts::failure::Memory;
 use doc_page_parts::heap::{Heap, String, Vec};
 use doc_page_parts::text::Text;
@@ -15,26 +17,26 @@ use std::rt::Files;
 /// What was found so far: folders that are still to be looked into, and files. Each is named from the folder that the walk began in.
 #[derive(Drop)]
 struct Found<'a> {
-    /// The folders that aren't looked into.
-    except: &'a [Text],
+    /// The folder of the configuration, which says which folders aren't looked into, and which files are media.
+    folder: &'a Folder,
     folders: Vec<String>,
     files: Vec<String>,
 }
 
-/// The names of the regular files whose name ends in `.md` in a folder and below, in the order of their bytes, each named from that
-/// folder. Names that begin with `.` are passed over, and so are links and the folders of the names `except`.
+/// The names of the regular files whose name ends in `.md`, or has an extension of the folder's media, in a folder and below, in the
+/// order of their bytes, each named from that folder. Names that begin with `.` are passed over, and so are links and the folders that
+/// it excepts.
 pub fn files_in<R: AllocGlobal + Files + Clone + Drop>(
     rt: &R,
     heap: Heap,
-    root: &str,
-    except: &[Text],
+    folder: &Folder,
 ) -> Result<Vec<String>, Fault> {
     let mut found = Found {
-        except,
+        folder,
         folders: Vec::new(heap),
         files: Vec::new(heap),
     };
-    look_below(rt, heap, root, &mut found)?;
+    look_below(rt, heap, folder.file.get(), &mut found)?;
     found.files.sort()?;
     Ok(found.files)
 }
@@ -117,18 +119,23 @@ fn note<R: AllocGlobal + Files + Clone + Drop>(
     }
 }
 
-/// Adds a folder, or a file whose name ends in `.md`.
+/// Adds a folder, or a file whose name is that of a page or a medium.
 fn add_by_kind(found: &mut Found<'_>, kind: FileType, path: String) -> Result<(), Memory> {
     if kind.is_dir() {
-        if is_one_of(found.except, path.as_str()) {
+        if is_one_of(found.folder.except.get(), path.as_str()) {
             return Ok(());
         }
         return push(&mut found.folders, path);
     }
-    if kind.is_file() && path.as_str().ends_with(".md") {
+    if kind.is_file() && is_taken(found.folder, path.as_str()) {
         return push(&mut found.files, path);
     }
     Ok(())
+}
+
+/// Whether a file of this name is a page or a medium.
+fn is_taken(folder: &Folder, name: &str) -> bool {
+    name.ends_with(".md") || is_medium(&folder.media, name)
 }
 
 fn is_one_of(names: &[Text], name: &str) -> bool {

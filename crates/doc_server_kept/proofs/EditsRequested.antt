@@ -10,6 +10,7 @@ use Rattle.doc_store_readers.specs.Sites.{View, goal_in, page_at}
 use Rattle.doc_store_readers.specs.declared.groups.GroupsError.{GroupsError}
 use Rattle.doc_store_readers.specs.declared.reader.Reader.{Reader}
 use Rattle.doc_store_readers.proofs.SortedSteps.{no_groups}
+use Rattle.doc_media.specs.Media.{Beside}
 use Rattle.doc_http.specs.declared.request.Request.{Request}
 use Rattle.doc_http_targets.specs.Queries.{optional_parameter, parameter}
 use Rattle.doc_http_targets.specs.WrittenPaths.{path_written}
@@ -169,9 +170,9 @@ module _ (view : View) (fine : (path : List ℕ) → IsForGroups (page_at view.p
     open_fits rest = either (begins_path rest) (new_form render browse offers view for_people (folder_begun rest))
         (form_at render browse offers view for_people (path_written rest)) (new_fits (folder_begun rest)) (form_fits (path_written rest))
 
-    preview_fits : (path : Option (List ℕ)) → Fits (preview_at render browse view path request)
-    preview_fits None = tt
-    preview_fits (Some path) = either (not request.markdown) _ _ tt (either (is_utf8 request.body) _ _ tt tt)
+    preview_fits : (media : Beside) (path : Option (List ℕ)) → Fits (preview_at render browse view media path request)
+    preview_fits media None = tt
+    preview_fits media (Some path) = either (not request.markdown) _ _ tt (either (is_utf8 request.body) _ _ tt tt)
 
     other_fits : (guest : Bool) (what : EditRequest) → Fits (by_other render browse offers view guest for_people what)
     other_fits guest (requests.NotAllowed resource) = tt
@@ -181,42 +182,42 @@ module _ (view : View) (fine : (path : List ℕ) → IsForGroups (page_at view.p
 
     -- ---- whom
 
-    owner_fits : (what : EditRequest) → Fits (by_owner render browse offers view left for_people request what)
-    owner_fits (requests.ReadSource rest) = read_fits (path_written rest)
-    owner_fits (requests.PutSource rest) = put_fits true (path_written rest) (written_is_path rest)
-    owner_fits (requests.PutPage rest) = put_fits false (path_written rest) (written_is_path rest)
-    owner_fits (requests.Remove rest) =
+    owner_fits : (media : Beside) (what : EditRequest) → Fits (by_owner render browse offers view media left for_people request what)
+    owner_fits media (requests.ReadSource rest) = read_fits (path_written rest)
+    owner_fits media (requests.PutSource rest) = put_fits true (path_written rest) (written_is_path rest)
+    owner_fits media (requests.PutPage rest) = put_fits false (path_written rest) (written_is_path rest)
+    owner_fits media (requests.Remove rest) =
         removal_fits (page_of view (path_written rest)) (found view (path_written rest) (written_is_path rest))
-    owner_fits (requests.Regroup rest) =
+    owner_fits media (requests.Regroup rest) =
         regroup_fits (page_of view (path_written rest)) (option_map groups_of (optional_parameter request.target (codes "groups")))
         (found view (path_written rest) (written_is_path rest)) (groups_named (optional_parameter request.target (codes "groups")))
-    owner_fits (requests.Move rest) =
+    owner_fits media (requests.Move rest) =
         move_fits (page_of view (path_written rest)) (option_map path_of (optional_parameter request.target (codes "to")))
         (found view (path_written rest) (written_is_path rest)) (parameter_is_path request.target (codes "to"))
-    owner_fits (requests.Open rest) = open_fits rest
-    owner_fits (requests.Preview rest) = preview_fits (path_written rest)
-    owner_fits (requests.NotAllowed resource) = tt
+    owner_fits media (requests.Open rest) = open_fits rest
+    owner_fits media (requests.Preview rest) = preview_fits media (path_written rest)
+    owner_fits media (requests.NotAllowed resource) = tt
 
-  module _ (render : Renders) (browse : Browse) (for_people : Bool) where
+  module _ (render : Renders) (browse : Browse) (media : Beside) (for_people : Bool) where
     entry_fits : (guest : Bool) (reader : Reader) (what : EditRequest)
-        → Fits (by_entry render browse view guest reader left for_people request what)
+        → Fits (by_entry render browse view media guest reader left for_people request what)
     entry_fits guest reader what =
         let offers : Offers = offers_for browse guest reader.owner in
-        either reader.owner (by_owner render browse offers view left for_people request what)
-        (by_other render browse offers view guest for_people what) (owner_fits render browse offers for_people what)
+        either reader.owner (by_owner render browse offers view media left for_people request what)
+        (by_other render browse offers view guest for_people what) (owner_fits render browse offers for_people media what)
         (other_fits render browse offers for_people guest what)
 
     asked_fits : (asking : Asking) (what : EditRequest)
-        → HoldsFor OfCalls (response_by render browse view asking left for_people request what)
+        → HoldsFor OfCalls (response_by render browse view media asking left for_people request what)
     asked_fits asked.Nobody what = tt
     asked_fits (asked.Guest row) what = entry_fits true row what
     asked_fits (asked.Known row) what = entry_fits false row what
 
     if_fits : (asking : Asking) (what : Option EditRequest)
-        → HoldsFor OfCalls (response_if render browse view asking left for_people request what)
+        → HoldsFor OfCalls (response_if render browse view media asking left for_people request what)
     if_fits asking None = tt
     if_fits asking (Some what) = asked_fits asking what
 
-    pub edits_are : (asking : Asking) → HoldsFor OfCalls (edit_response render browse view asking left for_people request)
+    pub edits_are : (asking : Asking) → HoldsFor OfCalls (edit_response render browse view media asking left for_people request)
     unfolding edit_response
     edits_are asking = if_fits asking (edit_request_of browse request)

@@ -24,6 +24,8 @@ use Rattle.doc_hub_events.specs.declared.refusal.ConnectError.TheVariants as con
 use Rattle.doc_hub_events.specs.declared.refusal.PushError.TheVariants as push_errors
 use Rattle.doc_hub_events.specs.declared.refusal.StepError.{StepError}
 use Rattle.doc_hub_events.specs.declared.refusal.StepError.TheVariants as step_errors
+use Rattle.doc_hub.proofs.AnswersFree.{answer_stays_free}
+use Rattle.doc_hub.proofs.Apart.{StaysFree}
 use Rattle.doc_hub.proofs.AnswerEdits.{answer_can_be_made}
 use Rattle.doc_hub.specs.Runs.{Happens, Leaves}
 use Rattle.doc_hub.specs.StepEdits.{TellsAt, edit_of_step}
@@ -38,6 +40,7 @@ use Rattle.doc_server_kept.specs.KeptTurns.{IsOfServer}
 pub record WasMade (w v : World) (told : Option Edit) : Type 0 where
   pub text : List ℕ
   pub can : CanBeMade (store_of w) text told
+  pub free : StaysFree w.media told
   pub state : store_of v ≡ unstamped (store_after (store_of w) text told)
 
 -- what an event told, where it told something, and the edit that is written of it
@@ -52,7 +55,7 @@ abbrev SameStore : World → World → Type 0
 SameStore w v = store_of v ≡ store_of w
 
 nothing_made : (w v : World) → SameStore w v → WasMade w v None
-nothing_made w v same = record { text = []; can = tt; state = same }
+nothing_made w v same = record { text = []; can = tt; free = tt; state = same }
 
 quiet : (render : Renders) (w v : World) (edit : Option SiteEdit) → SameStore w v → edit ≡ None → EventMade render w v edit
 quiet render w v edit same none =
@@ -103,7 +106,8 @@ module _ (render : Renders) (w v : World) where
   next_made n c (nexts.Fault code bare) state = nothing_made w v state
   next_made n c (nexts.Request used request) state = record {
     text = request.body;
-    can = answer_can_be_made w.takes_puts render w.settings (store_of w) (asking_of w request) request;
+    can = answer_can_be_made w.takes_puts render w.settings w.media (store_of w) (asking_of w request) request;
+    free = answer_stays_free render w request;
     state = state;
   }
 

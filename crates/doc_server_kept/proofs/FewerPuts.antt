@@ -13,7 +13,9 @@ use Rattle.doc_store.specs.declared.moving.MoveError.TheVariants as move_errors
 use Rattle.doc_store.specs.declared.site_edit.SiteEdit.{SiteEdit}
 use Rattle.doc_store.specs.declared.site_edit.SiteEdit.TheVariants as site_edits
 use Rattle.doc_store.specs.declared.store.EditError.{EditError}
-use Rattle.doc_store.specs.declared.store.EditError.TheVariants.{TooLong, StoreFull}
+use Rattle.doc_store.specs.declared.store.EditError.TheVariants.{Taken, TooLong, StoreFull}
+use Rattle.doc_media.specs.Media.{Media}
+use Rattle.doc_hub.specs.Worlds.{has_medium}
 use Rattle.doc_server_script.specs.Replays.{unless_refused}
 use Rattle.doc_server_restore.specs.Restores.{made, unstamped}
 
@@ -47,6 +49,12 @@ fits_fewer : (pages : ℕ) (stands : Bool) (a b : ℕ) (text : List ℕ) → a �
 fits_fewer pages stands a b text fewer =
     put_by_tests (nat_lt text_limit (length text)) (not stands && nat_le page_limit pages) (nat_le put_limit b) (nat_le put_limit a)
     (not_full put_limit a b fewer)
+
+may_fewer : (medium : Bool) (pages : ℕ) (stands : Bool) (a b : ℕ) (text : List ℕ) → a ≤ b
+    → ◌≡◌ {A = Result (Unit {0}) EditError} (if medium then Err Taken else fits pages stands b text) (Ok tt)
+    → ◌≡◌ {A = Result (Unit {0}) EditError} (if medium then Err Taken else fits pages stands a text) (Ok tt)
+may_fewer true pages stands a b text fewer is = is
+may_fewer false pages stands a b text fewer is = fits_fewer pages stands a b text fewer is
 
 abbrev moves_unless_full : Bool → Result (Unit {0}) MoveError
 moves_unless_full full = if full then Err move_errors.StoreFull else Ok tt
@@ -88,14 +96,15 @@ module _ (site : Site) (stamps others : TextMap ℕ) (a b : ℕ) (fewer : a ≤ 
   abbrev other : StoreState
   other = record { site = site; stamps = stamps; puts = b }
 
-  put_comes : (path : List ℕ) (page : Page) (t : StoreState) (stands : Bool) (said : Result (Unit {0}) EditError)
-      → fits (map.len site.pages) stands b page.text ≡ said → After (put_by other path page stands said) ≡ Some t
-      → Comes t (After (put_by one path page stands (fits (map.len site.pages) stands a page.text)))
-  put_comes path page t stands (Err e) fine is = absurd (no_some t is)
-  put_comes path page t stands (Ok done) fine is =
+  put_comes : (medium : Bool) (path : List ℕ) (page : Page) (t : StoreState) (stands : Bool) (said : Result (Unit {0}) EditError)
+      → ◌≡◌ {A = Result (Unit {0}) EditError} (if medium then Err Taken else fits (map.len site.pages) stands b page.text) said
+      → After (put_by other path page stands said) ≡ Some t
+      → Comes t (After (put_by one path page stands (if medium then Err Taken else fits (map.len site.pages) stands a page.text)))
+  put_comes medium path page t stands (Err e) fine is = absurd (no_some t is)
+  put_comes medium path page t stands (Ok done) fine is =
       let same : unstamped (with_page other path page) ≡ t = same_some (unstamped (with_page other path page)) t is in (
         unstamped (with_page one path page),
-        ap (λ said. After (put_by one path page stands said)) (fits_fewer (map.len site.pages) stands a b page.text fewer fine),
+        ap (λ said. After (put_by one path page stands said)) (may_fewer medium (map.len site.pages) stands a b page.text fewer fine),
         ap (λ (s : StoreState). s.site) same,
         subst (λ n. a + 1 ≤ n) (ap (λ (s : StoreState). s.puts) same) (one_more a b fewer),
       )
@@ -130,21 +139,22 @@ module _ (site : Site) (stamps others : TextMap ℕ) (a b : ℕ) (fewer : a ≤ 
       let same : unstamped other ≡ t = same_some (unstamped other) t is in
       (unstamped one, refl, ap (λ (s : StoreState). s.site) same, subst (λ n. a ≤ n) (ap (λ (s : StoreState). s.puts) same) fewer)
 
-  edit_comes : (edit : SiteEdit) (t : StoreState) → made other edit ≡ Some t → Comes t (made one edit)
-  edit_comes (site_edits.Put path groups text) t is =
+  edit_comes : (media : Media) (edit : SiteEdit) (t : StoreState) → made media other edit ≡ Some t → Comes t (made media one edit)
+  edit_comes media (site_edits.Put path groups text) t is =
       let page : Page = record { groups = groups; text = text } in
       let stands : Bool = map.contains_key site.pages path in
-      put_comes path page t stands (fits (map.len site.pages) stands b text) refl is
-  edit_comes (site_edits.Remove path) t is = removal_comes path t (map.contains_key site.pages path) is
-  edit_comes (site_edits.Move from to) t is =
+      let medium : Bool = has_medium media path in
+      put_comes medium path page t stands (if medium then Err Taken else fits (map.len site.pages) stands b text) refl is
+  edit_comes media (site_edits.Remove path) t is = removal_comes path t (map.contains_key site.pages path) is
+  edit_comes media (site_edits.Move from to) t is =
       let stands : Bool = map.contains_key site.pages from in
-      let taken : Bool = map.contains_key site.pages to in
+      let taken : Bool = map.contains_key site.pages to || has_medium media to in
       let aliases : ℕ = map.len (aliases_after site.aliases from to) in
       move_comes from to t stands taken aliases (move_fits stands taken aliases b) refl is
 
 -- an edit that one store accepts, another of the same site accepts, of which no more puts are known
-pub made_with_fewer : (u s t : StoreState) (edit : SiteEdit) → s.site ≡ u.site → s.puts ≤ u.puts → made u edit ≡ Some t
-    → Comes t (made s edit)
-made_with_fewer u s t edit same fewer is =
-    subst (λ (site : Site). Comes t (made (record { site = site; stamps = s.stamps; puts = s.puts }) edit)) (sym same)
-    (edit_comes u.site u.stamps s.stamps s.puts u.puts fewer edit t is)
+pub made_with_fewer : (media : Media) (u s t : StoreState) (edit : SiteEdit) → s.site ≡ u.site → s.puts ≤ u.puts
+    → made media u edit ≡ Some t → Comes t (made media s edit)
+made_with_fewer media u s t edit same fewer is =
+    subst (λ (site : Site). Comes t (made media (record { site = site; stamps = s.stamps; puts = s.puts }) edit)) (sym same)
+    (edit_comes u.site u.stamps s.stamps s.puts u.puts fewer media edit t is)

@@ -5,6 +5,7 @@ use Rattle.doc_store_readers.specs.Groups.{groups_of}
 use Rattle.doc_store_readers.specs.Sites.{View}
 use Rattle.doc_store_readers.specs.declared.groups.GroupsError.{GroupsError}
 use Rattle.doc_store_readers.specs.declared.reader.Reader.{Reader}
+use Rattle.doc_media.specs.Media.{Beside}
 use Rattle.doc_http.specs.declared.request.Request.{Request}
 use Rattle.doc_http_targets.specs.Queries.{parameter}
 use Rattle.doc_http_targets.specs.Targets.{Route, route_of}
@@ -54,15 +55,15 @@ module _ (view : View) (left : Bool) where
   route_is owner routes.Search request method = tt
   route_is owner routes.Broken request method = tt
 
-  found_is : (render : Renders) (owner : Bool) (route : Option Route) (request : Request)
-      → OfCalls (on_route render view owner left route request).edit
-  found_is render owner None request = tt
-  found_is render owner (Some route) request =
+  found_is : (render : Renders) (media : Beside) (owner : Bool) (route : Option Route) (request : Request)
+      → OfCalls (on_route render view media owner left route request).edit
+  found_is render media owner None request = tt
+  found_is render media owner (Some route) request =
       let method : Method = method_of request.method in
-      either (reads method) (only_reply (reply_at render view route request)) (edit_at view owner left route request method) tt
+      either (reads method) (only_reply (reply_at render view media route request)) (edit_at view owner left route request method) tt
       (route_is owner route request method)
 
-pub response_is : (render : Renders) (view : View) (reader : Option Reader) (left : Bool) (request : Request)
-    → OfCalls (response_to render view reader left request).edit
-response_is render view None left request = tt
-response_is render view (Some reader) left request = found_is view left render reader.owner (route_of request.target) request
+pub response_is : (render : Renders) (view : View) (media : Beside) (reader : Option Reader) (left : Bool) (request : Request)
+    → OfCalls (response_to render view media reader left request).edit
+response_is render view media None left request = tt
+response_is render view media (Some reader) left request = found_is view left render media reader.owner (route_of request.target) request

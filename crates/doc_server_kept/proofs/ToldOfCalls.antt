@@ -13,6 +13,7 @@ use Rattle.doc_hub_answers.specs.Edits.{puts_taken}
 use Rattle.doc_hub_answers.specs.Replies.{Renders}
 use Rattle.doc_hub_answers.specs.declared.edit.Edit.{Edit}
 use Rattle.doc_hub_replies.specs.Answers.{is_for_people}
+use Rattle.doc_media.specs.Media.{Beside, beside_of}
 use Rattle.doc_hub.proofs.AnswerEdits.{answer_holds}
 use Rattle.doc_hub.specs.StepEdits.{TellsAt, edit_of_step}
 use Rattle.doc_hub.specs.Worlds.{World, asking_of, reader_of}
@@ -42,8 +43,9 @@ module _ (render : Renders) (w : World) (is : IsOfCalls w.site) where
       let reader : Option Reader = reader_of w request in
       let view : View = view_of w.site reader in
       let left : Bool = puts_taken w.takes_puts w.puts in
-      answer_holds OfCalls tt render view (asking_of w request) left request (response_is render view reader left request)
-      (λ browse. edits_are view (shown_groups w.site reader is) left request render browse (is_for_people request) (asking_of w request))
+      let media : Beside = beside_of w.media reader in
+      answer_holds OfCalls tt render view media (asking_of w request) left request (response_is render view media reader left request)
+      (λ browse. edits_are view (shown_groups w.site reader is) left request render browse media (is_for_people request) (asking_of w request))
       w.settings
 
   open_of_calls : (c : Connection) (told : Option Edit) (closed : Bool)

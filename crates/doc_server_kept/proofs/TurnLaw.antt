@@ -1,6 +1,6 @@
 -- The laws of a turn, event after event.
 use Rattle.std.proofs.Common.{◌≡◌, ◌≤◌, All, List, [], ◌∷◌, ◌++◌, refl, ap, sym, ◌∙◌, subst}
-use Rattle.std.specs.Prelude.{Option, Some, None, IfSome, option_to_list}
+use Rattle.std.specs.Prelude.{Option, Some, None, IfSome, Ok, option_to_list}
 use Rattle.std.proofs.lemmas.List.Elements.{All-head, All-tail}
 use Rattle.doc_store.specs.Store.{StoreState}
 use Rattle.doc_store.specs.declared.site_edit.SiteEdit.{SiteEdit}
@@ -8,12 +8,14 @@ use Rattle.doc_hub_answers.specs.Replies.{Renders}
 use Rattle.doc_hub_events.specs.declared.event.Event.{Event}
 use Rattle.doc_hub_events.specs.declared.outcome.Outcome.{Outcome}
 use Rattle.doc_hub.specs.Runs.{Happened, Leaves, Runs, nothing, first}
-use Rattle.doc_hub.specs.Worlds.{World, store_of}
+use Rattle.doc_hub.specs.Worlds.{IsApart, World, store_of}
 use Rattle.doc_server_script.specs.PageLines.{lines_of}
 use Rattle.doc_server_listen.specs.Edits.{AreMade, MakesIn, accepted, left_by}
 use Rattle.doc_server_restore.proofs.LineLaws.{lines_are_read}
 use Rattle.doc_server_restore.specs.Laws.{AreEdits, IsEdit}
-use Rattle.doc_server_restore.specs.Restores.{all_made, made, unstamped}
+use Rattle.doc_server_restore.specs.Restores.{all_made, made, restored, unstamped}
+use Rattle.doc_media.specs.Media.{Media}
+use Rattle.doc_hub.proofs.MediaLaws.{media_stand_apart}
 use Rattle.doc_server_kept.specs.KeptTurns.{IsOfCalls, IsOfServer, QuietTurnIsRestored, TurnIsRestored, TurnStaysOfCalls}
 use Rattle.doc_server_kept.proofs.EditsMade.{Follows, made_again}
 use Rattle.doc_server_kept.proofs.Events.{EventMade, event_made, some_made}
@@ -52,26 +54,28 @@ stands_too s w v same stands = record {
 }
 
 -- the edits lead from the store to one that has the site of the world
-abbrev Lead : List SiteEdit → StoreState → World → Type 0
-Lead edits s v = (t : StoreState) × (all_made s edits ≡ Some t) × Stands t v
+abbrev Lead : Media → List SiteEdit → StoreState → World → Type 0
+Lead media edits s v = (t : StoreState) × (all_made media s edits ≡ Some t) × Stands t v
 
-abbrev behind : List SiteEdit → Option StoreState → Option StoreState
-behind edits None = None
-behind edits (Some next) = all_made next edits
+abbrev behind : Media → List SiteEdit → Option StoreState → Option StoreState
+behind media edits None = None
+behind media edits (Some next) = all_made media next edits
 
-as_behind : (edits : List SiteEdit) (mid : Option StoreState)
-    → ◌≡◌ {A = Option StoreState} (elim mid [ None ↦ None | Some next ↦ all_made next edits ]) (behind edits mid)
-as_behind edits None = refl
-as_behind edits (Some next) = refl
+as_behind : (media : Media) (edits : List SiteEdit) (mid : Option StoreState)
+    → ◌≡◌ {A = Option StoreState} (elim mid [ None ↦ None | Some next ↦ all_made media next edits ]) (behind media edits mid)
+as_behind media edits None = refl
+as_behind media edits (Some next) = refl
 
 -- an edit in front of others, or none
-lead_more : (w v u : World) (edit : Option SiteEdit) (edits : List SiteEdit) (s : StoreState) → IsOfCalls w.site → Follows w v edit
-    → Stands s w → ((next : StoreState) → Stands next v → Lead edits next u) → Lead (option_to_list edit ++ edits) s u
-lead_more w v u None edits s is follows stands rest = rest s (stands_too s w v follows stands)
-lead_more w v u (Some edit) edits s is follows stands rest =
-    let (next, one, site, puts) = made_with_fewer (store_of w) s (store_of v) edit stands.site stands.puts (follows is.is_site) in
+lead_more : (media : Media) (w v u : World) (edit : Option SiteEdit) (edits : List SiteEdit) (s : StoreState) → w.media ≡ media
+    → IsOfCalls w.site → IsApart w.site w.media → Follows w v edit
+    → Stands s w → ((next : StoreState) → Stands next v → Lead media edits next u) → Lead media (option_to_list edit ++ edits) s u
+lead_more media w v u None edits s same is apart follows stands rest = rest s (stands_too s w v follows stands)
+lead_more media w v u (Some edit) edits s same is apart follows stands rest =
+    let made_so = subst (λ m. made m (store_of w) edit ≡ Some (store_of v)) same (follows is.is_site apart) in
+    let (next, one, site, puts) = made_with_fewer media (store_of w) s (store_of v) edit stands.site stands.puts made_so in
     let (last, all, there) = rest next (record { site = site; puts = puts }) in
-    (last, as_behind edits (made s edit) ∙ ap (behind edits) one ∙ all, there)
+    (last, as_behind media edits (made media s edit) ∙ ap (behind media edits) one ∙ all, there)
 
 edits_more : (edit : Option SiteEdit) (edits : List SiteEdit) → IfSome edit IsEdit → AreEdits edits
     → AreEdits (option_to_list edit ++ edits)
@@ -110,17 +114,24 @@ module _ (render : Renders) where
       edits_more edit (accepted edits) after.1
       (turn_edits y z rest edits after.0 runs (others_of x event outcome rest servers) made.1)
 
+  abbrev just : (w v : World) (event : Event) (outcome : Outcome) → Leaves render w event v outcome
+      → Runs render w (here w event outcome ∷ []) v
+  just w v event outcome leaves = first w v v event outcome [] leaves (nothing v)
+
   -- and leads to the site that is left
-  turn_leads : (w v : World) (run : List Happened) (edits : List (Option SiteEdit)) (s : StoreState) → IsOfCalls w.site
-      → Runs render w run v → AreOfServer run → AreMade render run v edits → Stands s w → Lead (accepted edits) s v
-  turn_leads w v run [] s is (nothing x) servers made stands = (s, refl, stands)
-  turn_leads w v run (edit ∷ edits) s is (nothing x) servers made stands = absurd made
-  turn_leads w v run [] s is (first x y z event outcome rest leaves runs) servers made stands = absurd made
-  turn_leads w v run (edit ∷ edits) s is (first x y z event outcome rest leaves runs) servers made stands =
+  turn_leads : (media : Media) (w v : World) (run : List Happened) (edits : List (Option SiteEdit)) (s : StoreState) → w.media ≡ media
+      → IsOfCalls w.site → IsApart w.site w.media
+      → Runs render w run v → AreOfServer run → AreMade render run v edits → Stands s w → Lead media (accepted edits) s v
+  turn_leads media w v run [] s same is apart (nothing x) servers made stands = (s, refl, stands)
+  turn_leads media w v run (edit ∷ edits) s same is apart (nothing x) servers made stands = absurd made
+  turn_leads media w v run [] s same is apart (first x y z event outcome rest leaves runs) servers made stands = absurd made
+  turn_leads media w v run (edit ∷ edits) s same is apart (first x y z event outcome rest leaves runs) servers made stands =
       let one = one_event x y z rest event outcome edit runs (first_of x event outcome rest servers) leaves made.0 in
       let after = of_calls render x y edit one is in
-      lead_more x y z edit (accepted edits) s is (follows render x y edit one) stands
-      (λ next there. turn_leads y z rest edits next after.0 runs (others_of x event outcome rest servers) made.1 there)
+      let step = just x y event outcome leaves in
+      lead_more media x y z edit (accepted edits) s same is apart (follows render x y edit one) stands
+      (λ next there. turn_leads media y z rest edits next (media_stand_apart.stand render x y _ step ∙ same) after.0
+      (media_stand_apart.apart render x y _ apart step) runs (others_of x event outcome rest servers) made.1 there)
 
   -- a turn without edits leaves the store
   quiet_leaves : (w v : World) (run : List Happened) (edits : List (Option SiteEdit)) → Runs render w run v → AreOfServer run
@@ -142,14 +153,16 @@ turn_stays_of_calls render w v run is (first x y z event outcome rest leaves run
 -- ---- the laws
 
 pub turn_is_restored : TurnIsRestored
-turn_is_restored render config w v run edits texts is runs servers made before =
-    let (store, all, stands) = turn_leads render w v run edits before.store is runs servers made
+turn_is_restored render config w v run edits texts is apart runs servers made before =
+    let (store, all, stands) = turn_leads render w.media w v run edits before.store refl is apart runs servers made
     (record { site = before.site; puts = before.puts }) in
     record {
       store = store;
-      gives = one_record_more (lines_of (accepted edits)) (accepted edits)
+      gives = subst (λ m. restored m (unstamped config) (texts ++ lines_of (accepted edits) ∷ []) ≡ Ok store)
+          (sym (media_stand_apart.stand render w v run runs))
+          (one_record_more w.media (lines_of (accepted edits)) (accepted edits)
           (lines_are_read (accepted edits) (turn_edits render w v run edits is runs servers made))
-          texts 1 (unstamped config) before.store store before.gives all;
+          texts 1 (unstamped config) before.store store before.gives all);
       site = stands.site;
       puts = stands.puts;
     }
@@ -158,4 +171,9 @@ pub quiet_turn_is_restored : QuietTurnIsRestored
 quiet_turn_is_restored render config w v run edits texts runs servers made none before =
     let stands = stands_too before.store w v (quiet_leaves render w v run edits runs servers made none)
     (record { site = before.site; puts = before.puts }) in
-    record { store = before.store; gives = before.gives; site = stands.site; puts = stands.puts }
+    record {
+      store = before.store;
+      gives = subst (λ m. restored m (unstamped config) texts ≡ Ok before.store) (sym (media_stand_apart.stand render w v run runs)) before.gives;
+      site = stands.site;
+      puts = stands.puts;
+    }

@@ -10,7 +10,7 @@ use Rattle.doc_hub_answers.specs.Replies.{Renders}
 use Rattle.doc_hub_events.specs.declared.event.Event.{Event}
 use Rattle.doc_hub_events.specs.declared.event.Event.TheVariants as events
 use Rattle.doc_hub.specs.Runs.{Happened, Runs}
-use Rattle.doc_hub.specs.Worlds.{World}
+use Rattle.doc_hub.specs.Worlds.{IsApart, World}
 use Rattle.doc_server_script.specs.Laws.{IsText}
 use Rattle.doc_server_script.specs.PageLines.{lines_of}
 use Rattle.doc_server_listen.specs.Edits.{AreMade, accepted}
@@ -28,19 +28,19 @@ pub record IsOfCalls (site : Site) : Type 0 where
   pub is_site : IsSite site
   pub pages : (path : List ℕ) (page : Page) → map.get site.pages path ≡ Some page → IsGroups page.groups × IsText page.text
 
--- The records give the site of a world. Its puts are a bound: a hub may have spent some that no record tells, and what it accepts after
--- more of them is accepted after fewer, with the same effect.
+-- The records give the site of a world beside its media. Its puts are a bound: a hub may have spent some that no record tells, and what it
+-- accepts after more of them is accepted after fewer, with the same effect.
 pub record IsRestored (config : StoreState) (texts : List (List ℕ)) (w : World) : Type 0 where
   pub store : StoreState
-  pub gives : restored (unstamped config) texts ≡ Ok store
+  pub gives : restored w.media (unstamped config) texts ≡ Ok store
   pub site : store.site ≡ w.site
   pub puts : store.puts ≤ w.puts
 
--- what a turn adds to a journal is restored as what the turn made
+-- what a turn adds to a journal is restored as what the turn made, where no path is both a medium's and a page's or an alias
 abbrev pub TurnIsRestored : Type 0
 TurnIsRestored = (render : Renders) (config : StoreState) (w v : World) (run : List Happened) (edits : List (Option SiteEdit))
     (texts : List (List ℕ))
-    → IsOfCalls w.site → Runs render w run v → All (λ h. IsOfServer h.event) run → AreMade render run v edits
+    → IsOfCalls w.site → IsApart w.site w.media → Runs render w run v → All (λ h. IsOfServer h.event) run → AreMade render run v edits
     → IsRestored config texts w → IsRestored config (texts ++ lines_of (accepted edits) ∷ []) v
 
 -- a turn that made no edit adds nothing

@@ -4,7 +4,8 @@ ghost use Rattle.doc_server_kept.specs.KeptTurns.{QuietTurnIsRestored, TurnIsRes
 
 /// The record of a turn restores what the turn made: where the records before it give the site of the world that the turn met, from the same
 /// configuration, these and one of the lines of its edits give the site of the world that it left. Of its puts no more are counted than the
-/// hub has counted. The events of the turn are those of connections, and whether puts are taken; its site is as calls make one.
+/// hub has counted. The events of the turn are those of connections, and whether puts are taken; its site is as calls make one, and no path
+/// is both a medium's and a page's or an alias, which `doc_hub` promises of the worlds of its runs.
 pub fn a_turn_is_restored()
     ensures { TurnIsRestored }
 {}

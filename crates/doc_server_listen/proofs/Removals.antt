@@ -66,7 +66,7 @@ module _ (render : Renders) (w : World) (off : w.takes_puts ≡ false) where
   answer_alone request =
       removal_alone w request.body (answer_in render w request).edit
       (subst (λ takes. CanBeMade (spent w) request.body (answer_in render (record w { takes_puts = takes }) request).edit) (sym off)
-      (answer_can_be_made true render w.settings (spent w) (asking_of w request) request))
+      (answer_can_be_made true render w.settings w.media (spent w) (asking_of w request) request))
 
   next_alone : (next : Next) → IsRemoval (edit_of_step render w next)
   next_alone nexts.More = tt

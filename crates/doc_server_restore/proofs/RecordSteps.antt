@@ -8,6 +8,7 @@ use Rattle.std.specs.Str.{is_utf8}
 use Rattle.std.specs.Prelude.{IsUtf8}
 use Rattle.std.proofs.Common.{inl, inr}
 use Rattle.std.proofs.lemmas.Str.{IsUtf8-from_is_utf8}
+use Rattle.doc_media.specs.Media.{Media}
 use Rattle.doc_server_script.specs.Scripts.{events_of}
 use Rattle.std.proofs.lemmas.Bool.{cases_Bool, true≢false}
 use Rattle.doc_server_streams.specs.declared.fault.Fault.{Fault}
@@ -20,80 +21,86 @@ use Rattle.doc_server_restore.specs.Restores.{after_record, all_made, edit_in, e
 use Rattle.doc_server_restore.specs.RestoreSteps.{Reads, TellsLine, is_edit, line_refused, made_by, made_of}
 use Rattle.doc_server_restore.proofs.Effects.{events_made, lines_refused}
 
-abbrev pub onto : ℕ → List (List ℕ) → Result StoreState RestoreFault → Result StoreState RestoreFault
-onto n texts (Err fault) = Err fault
-onto n texts (Ok next) = restored_from (n + 1) next texts
+module _ (media : Media) where
+  abbrev pub onto : ℕ → List (List ℕ) → Result StoreState RestoreFault → Result StoreState RestoreFault
+  onto n texts (Err fault) = Err fault
+  onto n texts (Ok next) = restored_from media (n + 1) next texts
 
-pub as_onto : (n : ℕ) (store : StoreState) (text : List ℕ) (texts : List (List ℕ)) (answer : Result StoreState RestoreFault)
-    → after_record store n (edits_of text) ≡ answer → restored_from n store (text ∷ texts) ≡ onto n texts answer
-as_onto n store text texts answer is = each (after_record store n (edits_of text)) ∙ ap (onto n texts) is
-  where
-    each : (r : Result StoreState RestoreFault)
-        → ◌≡◌ {A = Result StoreState RestoreFault} (elim r [
-          | Err fault ↦ Err fault
-          | Ok next ↦ restored_from (n + 1) next texts
-        ]) (onto n texts r)
-    each (Err fault) = refl
-    each (Ok next) = refl
+  pub as_onto : (n : ℕ) (store : StoreState) (text : List ℕ) (texts : List (List ℕ)) (answer : Result StoreState RestoreFault)
+      → after_record media store n (edits_of text) ≡ answer → restored_from media n store (text ∷ texts) ≡ onto n texts answer
+  as_onto n store text texts answer is = each (after_record media store n (edits_of text)) ∙ ap (onto n texts) is
+    where
+      each : (r : Result StoreState RestoreFault)
+          → ◌≡◌ {A = Result StoreState RestoreFault} (elim r [
+            | Err fault ↦ Err fault
+            | Ok next ↦ restored_from media (n + 1) next texts
+          ]) (onto n texts r)
+      each (Err fault) = refl
+      each (Ok next) = refl
 
--- a record was restored
-pub next_record : (all : Result StoreState RestoreFault) (n : ℕ) (store next : StoreState) (left texts : List (List ℕ)) (text : List ℕ)
-    → all ≡ restored_from n store left → left ≡ text ∷ texts → after_record store n (edits_of text) ≡ Ok next
-    → all ≡ restored_from (n + 1) next texts
-next_record all n store next left texts text so first is =
-    so ∙ ap (restored_from n store) first ∙ as_onto n store text texts (Ok next) is
+  -- a record was restored
+  pub next_record : (all : Result StoreState RestoreFault) (n : ℕ) (store next : StoreState) (left texts : List (List ℕ)) (text : List ℕ)
+      (here : Media) → here ≡ media
+      → all ≡ restored_from media n store left → left ≡ text ∷ texts → after_record here store n (edits_of text) ≡ Ok next
+      → all ≡ restored_from media (n + 1) next texts
+  next_record all n store next left texts text here same so first is =
+      so ∙ ap (restored_from media n store) first
+      ∙ as_onto n store text texts (Ok next) (ap (λ m. after_record m store n (edits_of text)) (sym same) ∙ is)
 
--- a record wasn't
-pub last_record : (all : Result StoreState RestoreFault) (n : ℕ) (store : StoreState) (left texts : List (List ℕ)) (text : List ℕ)
-    (fault : RestoreFault) → all ≡ restored_from n store left → left ≡ text ∷ texts
-    → after_record store n (edits_of text) ≡ Err fault → all ≡ Err fault
-last_record all n store left texts text fault so first is =
-    so ∙ ap (restored_from n store) first ∙ as_onto n store text texts (Err fault) is
+  -- a record wasn't
+  pub last_record : (all : Result StoreState RestoreFault) (n : ℕ) (store : StoreState) (left texts : List (List ℕ)) (text : List ℕ)
+      (fault : RestoreFault) (here : Media) → here ≡ media → all ≡ restored_from media n store left → left ≡ text ∷ texts
+      → after_record here store n (edits_of text) ≡ Err fault → all ≡ Err fault
+  last_record all n store left texts text fault here same so first is =
+      so ∙ ap (restored_from media n store) first
+      ∙ as_onto n store text texts (Err fault) (ap (λ m. after_record m store n (edits_of text)) (sym same) ∙ is)
 
--- ---- one record
+  -- ---- one record
 
--- its edits are made
-pub record_restored : (store next : StoreState) (n : ℕ) (text : List ℕ) (edits : List SiteEdit) → edits_of text ≡ Some edits
-    → all_made store edits ≡ Some next → after_record store n (edits_of text) ≡ Ok next
-record_restored store next n text edits said is =
-    ap (after_record store n) said ∙ ap (λ o. ok_or o (faults.Refused n (refused_from 1 store edits))) is
+  -- its edits are made
+  pub record_restored : (store next : StoreState) (n : ℕ) (text : List ℕ) (edits : List SiteEdit) → edits_of text ≡ Some edits
+      → all_made media store edits ≡ Some next → after_record media store n (edits_of text) ≡ Ok next
+  record_restored store next n text edits said is =
+      ap (after_record media store n) said ∙ ap (λ o. ok_or o (faults.Refused n (refused_from media 1 store edits))) is
 
-pub record_made : (store next : StoreState) (n : ℕ) (given : Option (List SiteEdit)) (found events : List Event) → Reads given (Some found)
-    → events ≡ found → made_of store events ≡ Some next → after_record store n given ≡ Ok next
-record_made store next n given found events (edits, are, said) same is =
-    ap (after_record store n) said
-    ∙ ap (λ o. ok_or o (faults.Refused n (refused_from 1 store edits)))
-    (sym (events_made found edits are store) ∙ ap (made_of store) (sym same) ∙ is)
+  pub record_made : (store next : StoreState) (n : ℕ) (given : Option (List SiteEdit)) (found events : List Event) → Reads given (Some found)
+      → events ≡ found → made_of media store events ≡ Some next → after_record media store n given ≡ Ok next
+  record_made store next n given found events (edits, are, said) same is =
+      ap (after_record media store n) said
+      ∙ ap (λ o. ok_or o (faults.Refused n (refused_from media 1 store edits)))
+      (sym (events_made media found edits are store) ∙ ap (made_of media store) (sym same) ∙ is)
 
-pub record_refused : (store : StoreState) (n line : ℕ) (given : Option (List SiteEdit)) (found events : List Event)
-    → Reads given (Some found) → events ≡ found → made_of store events ≡ None → line ≡ line_refused 1 store events
-    → after_record store n given ≡ Err (faults.Refused n line)
-record_refused store n line given found events (edits, are, said) same is first =
-    ap (after_record store n) said
-    ∙ ap (λ o. ok_or o (faults.Refused n (refused_from 1 store edits)))
-    (sym (events_made found edits are store) ∙ ap (made_of store) (sym same) ∙ is)
-    ∙ ap (λ l. Err (faults.Refused n l))
-    (sym (first ∙ ap (line_refused 1 store) same ∙ lines_refused found edits 1 are store))
+  pub record_refused : (store : StoreState) (n line : ℕ) (given : Option (List SiteEdit)) (found events : List Event)
+      → Reads given (Some found) → events ≡ found → made_of media store events ≡ None → line ≡ line_refused media 1 store events
+      → after_record media store n given ≡ Err (faults.Refused n line)
+  record_refused store n line given found events (edits, are, said) same is first =
+      ap (after_record media store n) said
+      ∙ ap (λ o. ok_or o (faults.Refused n (refused_from media 1 store edits)))
+      (sym (events_made media found edits are store) ∙ ap (made_of media store) (sym same) ∙ is)
+      ∙ ap (λ l. Err (faults.Refused n l))
+      (sym (first ∙ ap (line_refused media 1 store) same ∙ lines_refused media found edits 1 are store))
 
--- ---- events
+  -- ---- events
 
-abbrev behind : List Event → Option StoreState → Option StoreState
-behind events None = None
-behind events (Some next) = made_of next events
+  abbrev behind : List Event → Option StoreState → Option StoreState
+  behind events None = None
+  behind events (Some next) = made_of media next events
 
-as_behind : (store : StoreState) (event : Event) (events : List Event) (answer : Option StoreState)
-    → made_by store (edit_in event) ≡ answer → made_of store (event ∷ events) ≡ behind events answer
-as_behind store event events answer is = each (made_by store (edit_in event)) ∙ ap (behind events) is
-  where
-    each : (mid : Option StoreState)
-        → ◌≡◌ {A = Option StoreState} (elim mid [ None ↦ None | Some next ↦ made_of next events ]) (behind events mid)
-    each None = refl
-    each (Some next) = refl
+  as_behind : (store : StoreState) (event : Event) (events : List Event) (answer : Option StoreState)
+      → made_by media store (edit_in event) ≡ answer → made_of media store (event ∷ events) ≡ behind events answer
+  as_behind store event events answer is = each (made_by media store (edit_in event)) ∙ ap (behind events) is
+    where
+      each : (mid : Option StoreState)
+          → ◌≡◌ {A = Option StoreState} (elim mid [ None ↦ None | Some next ↦ made_of media next events ]) (behind events mid)
+      each None = refl
+      each (Some next) = refl
 
-pub next_event : (all : Option StoreState) (store : StoreState) (left events : List Event) (event : Event) (answer : Option StoreState)
-    → all ≡ made_of store left → left ≡ event ∷ events → made_by store (edit_in event) ≡ answer → all ≡ behind events answer
-next_event all store left events event answer so first is =
-    so ∙ ap (made_of store) first ∙ as_behind store event events answer is
+  pub next_event : (all : Option StoreState) (store : StoreState) (left events : List Event) (event : Event) (answer : Option StoreState)
+      (here : Media) → here ≡ media
+      → all ≡ made_of media store left → left ≡ event ∷ events → made_by here store (edit_in event) ≡ answer → all ≡ behind events answer
+  next_event all store left events event answer here same so first is =
+      so ∙ ap (made_of media store) first
+      ∙ as_behind store event events answer (ap (λ m. made_by m store (edit_in event)) (sym same) ∙ is)
 
 -- ---- what a script says
 

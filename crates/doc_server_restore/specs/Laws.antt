@@ -1,5 +1,5 @@
 -- Laws of a restoration; the proofs are in proofs/.
-use Rattle.std.specs.Prelude.{◌≡◌, ℕ, List, [], ◌∷◌, ⊤, Some, Ok}
+use Rattle.std.specs.Prelude.{◌≡◌, ℕ, List, [], ◌∷◌, ⊤, None, Some, Ok}
 use Rattle.doc_store_readers.specs.Groups.{IsGroups}
 use Rattle.doc_store_readers.specs.Sites.{Site, IsSite}
 use Rattle.doc_store.specs.Store.{StoreState}
@@ -30,4 +30,4 @@ LinesAreRead = (edits : List SiteEdit) → AreEdits edits → edits_of (lines_of
 abbrev pub CompactionIsRestored : Type 0
 CompactionIsRestored = (store : StoreState) (site : Site) (records : List (List ℕ)) → IsSite store.site → IsSite site → HasRoom store site
     → AreEdits (compacted store.site site) → AreLines records (compacted store.site site)
-    → (after : StoreState) × (restored (unstamped store) records ≡ Ok after) × (after.site ≡ site)
+    → (after : StoreState) × (restored None (unstamped store) records ≡ Ok after) × (after.site ≡ site)

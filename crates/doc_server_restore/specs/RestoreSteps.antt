@@ -1,6 +1,7 @@
 -- Words in which the steps of a restoration are stated.
 use Rattle.std.specs.Prelude.{◌≡◌, ℕ, ◌+◌, List, [], ◌∷◌, Bool, true, false, Option, Some, None, is_some}
 use Rattle.doc_store.specs.Store.{StoreState}
+use Rattle.doc_media.specs.Media.{Media}
 use Rattle.doc_store.specs.declared.site_edit.SiteEdit.{SiteEdit}
 use Rattle.doc_hub_events.specs.declared.event.Event.{Event}
 use Rattle.doc_hub_answers.specs.Replies.{Renders}
@@ -13,20 +14,20 @@ Tells true given new = given ≡ Some new
 Tells false given new = given ≡ None
 
 -- the store after an edit, where there is one and it is accepted
-abbrev pub made_by : StoreState → Option SiteEdit → Option StoreState
-made_by store None = None
-made_by store (Some edit) = made store edit
+abbrev pub made_by : Media → StoreState → Option SiteEdit → Option StoreState
+made_by media store None = None
+made_by media store (Some edit) = made media store edit
 
 -- the store after some events that are edits and are accepted
-abbrev pub made_of : StoreState → List Event → Option StoreState
-made_of store [] = Some store
-made_of store (event ∷ events) = elim (made_by store (edit_in event)) [ None ↦ None | Some next ↦ made_of next events ]
+abbrev pub made_of : Media → StoreState → List Event → Option StoreState
+made_of media store [] = Some store
+made_of media store (event ∷ events) = elim (made_by media store (edit_in event)) [ None ↦ None | Some next ↦ made_of media next events ]
 
 -- the number of the first of some events that isn't an edit that is accepted, where the first of them has the number n
-abbrev pub line_refused : ℕ → StoreState → List Event → ℕ
-line_refused n store [] = n
-line_refused n store (event ∷ events) =
-    elim (made_by store (edit_in event)) [ None ↦ n | Some next ↦ line_refused (n + 1) next events ]
+abbrev pub line_refused : Media → ℕ → StoreState → List Event → ℕ
+line_refused media n store [] = n
+line_refused media n store (event ∷ events) =
+    elim (made_by media store (edit_in event)) [ None ↦ n | Some next ↦ line_refused media (n + 1) next events ]
 
 -- which of some calls was refused, if one was, by the store that should be there after all of them
 abbrev pub TellsLine : Option ℕ → Option StoreState → ℕ → StoreState → Type 0

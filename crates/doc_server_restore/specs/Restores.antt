@@ -9,10 +9,12 @@ use Rattle.doc_store_readers.specs.Sites.{Site}
 use Rattle.doc_store.specs.Store.{StoreState, effect_of, without_page}
 use Rattle.doc_store.specs.declared.site_edit.SiteEdit.{SiteEdit}
 use Rattle.doc_store.specs.declared.site_edit.SiteEdit.TheVariants as site_edits
+use Rattle.doc_media.specs.Media.{Media}
+use Rattle.doc_hub.specs.Worlds.{moved_beside, put_beside}
 use Rattle.doc_hub_events.specs.declared.event.Event.{Event}
 use Rattle.doc_hub_events.specs.declared.event.Event.TheVariants as events
 use Rattle.doc_server_script.specs.Scripts.{events_of}
-use Rattle.doc_server_script.specs.Replays.{edited}
+use Rattle.doc_server_script.specs.Replays.{unless_refused}
 use Rattle.doc_server_restore.specs.declared.fault.RestoreFault.{RestoreFault}
 use Rattle.doc_server_restore.specs.declared.fault.RestoreFault.TheVariants as faults
 
@@ -55,38 +57,41 @@ edits_of_all (text ∷ texts) = all_in_front (edits_of text) (edits_of_all texts
 abbrev pub unstamped : StoreState → StoreState
 unstamped store = record { site = store.site; stamps = map.empty; puts = store.puts }
 
--- the store after an edit, unless it is refused: a removal is done also where no page stands
-abbrev pub made : StoreState → SiteEdit → Option StoreState
-made store (site_edits.Put path groups text) = option_map unstamped (edited store (site_edits.Put path groups text))
-made store (site_edits.Remove path) = Some (unstamped (without_page store path))
-made store (site_edits.Move from to) = option_map unstamped (edited store (site_edits.Move from to))
+-- the store after an edit beside media, unless it is refused: a removal is done also where no page stands
+abbrev pub made : Media → StoreState → SiteEdit → Option StoreState
+made media store (site_edits.Put path groups text) =
+    option_map unstamped (unless_refused (put_beside media store path groups text).0 (put_beside media store path groups text).1)
+made media store (site_edits.Remove path) = Some (unstamped (without_page store path))
+made media store (site_edits.Move from to) =
+    option_map unstamped (unless_refused (moved_beside media store from to).0 (moved_beside media store from to).1)
 
 -- the store after some edits, unless one of them is refused
-abbrev pub all_made : StoreState → List SiteEdit → Option StoreState
-all_made store [] = Some store
-all_made store (edit ∷ edits) = elim (made store edit) [ None ↦ None | Some next ↦ all_made next edits ]
+abbrev pub all_made : Media → StoreState → List SiteEdit → Option StoreState
+all_made media store [] = Some store
+all_made media store (edit ∷ edits) = elim (made media store edit) [ None ↦ None | Some next ↦ all_made media next edits ]
 
 -- the number of the first of some edits that isn't made, where the first of them has the number n; where each is made, that behind the last
-abbrev pub refused_from : ℕ → StoreState → List SiteEdit → ℕ
-refused_from n store [] = n
-refused_from n store (edit ∷ edits) = elim (made store edit) [ None ↦ n | Some next ↦ refused_from (n + 1) next edits ]
+abbrev pub refused_from : Media → ℕ → StoreState → List SiteEdit → ℕ
+refused_from media n store [] = n
+refused_from media n store (edit ∷ edits) =
+    elim (made media store edit) [ None ↦ n | Some next ↦ refused_from media (n + 1) next edits ]
 
 -- the store after the record of number n, or why it isn't restored: its lines, each of which is an edit, are counted from 1
-abbrev pub after_record : StoreState → ℕ → Option (List SiteEdit) → Result StoreState RestoreFault
-after_record store n None = Err (faults.BadRecord n)
-after_record store n (Some edits) = ok_or (all_made store edits) (faults.Refused n (refused_from 1 store edits))
+abbrev pub after_record : Media → StoreState → ℕ → Option (List SiteEdit) → Result StoreState RestoreFault
+after_record media store n None = Err (faults.BadRecord n)
+after_record media store n (Some edits) = ok_or (all_made media store edits) (faults.Refused n (refused_from media 1 store edits))
 
 -- the same of more records, the first of which has the number n
-abbrev pub restored_from : ℕ → StoreState → List (List ℕ) → Result StoreState RestoreFault
-restored_from n store [] = Ok store
-restored_from n store (text ∷ texts) = elim (after_record store n (edits_of text)) [
+abbrev pub restored_from : Media → ℕ → StoreState → List (List ℕ) → Result StoreState RestoreFault
+restored_from media n store [] = Ok store
+restored_from media n store (text ∷ texts) = elim (after_record media store n (edits_of text)) [
   | Err fault ↦ Err fault
-  | Ok next ↦ restored_from (n + 1) next texts
+  | Ok next ↦ restored_from media (n + 1) next texts
 ]
 
--- a store after all records, counted from 1, or why one of them isn't restored
-abbrev pub restored : StoreState → List (List ℕ) → Result StoreState RestoreFault
-restored store texts = restored_from 1 store texts
+-- a store beside media after all records, counted from 1, or why one of them isn't restored
+abbrev pub restored : Media → StoreState → List (List ℕ) → Result StoreState RestoreFault
+restored media store texts = restored_from media 1 store texts
 
 -- what an edit that is made makes of a site: a removal where no page stands makes nothing
 abbrev pub effect_made : Site → SiteEdit → Site

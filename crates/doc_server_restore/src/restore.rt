@@ -18,11 +18,11 @@ use doc_store::site_edit::SiteEdit;
 /// which an edit is refused, ends it: then the edits before it stand.
 pub fn restore<E: Edits>(heap: Heap, site: &mut E, records: &[Bytes]) -> Result<(), RestoreFault>
     ensures restored { OnOk result
-        (restored (E.store site.old) records.now ≡ Ok (E.store site.new)) }
+        (restored (E.media site.old) (E.store site.old) records.now ≡ Ok (E.store site.new)) }
     ensures effect { OnOk result
         (HaveEffect records.now (E.store site.old) (E.store site.new)) }
     ensures fault { IfErr result (λ fault. fault ≢ RestoreFault.Memory
-        → restored (E.store site.old) records.now ≡ Err fault) }
+        → restored (E.media site.old) (E.store site.old) records.now ≡ Err fault) }
     ensures alike { E.alike site.old site.new }
 {
     restore_all(heap, site, records)
@@ -31,9 +31,9 @@ pub fn restore<E: Edits>(heap: Heap, site: &mut E, records: &[Bytes]) -> Result<
 /// Makes the edits of all records.
 fn restore_all<E: Edits>(heap: Heap, site: &mut E, records: &[Bytes]) -> Result<(), RestoreFault>
     ensures restored { OnOk result
-        (restored (E.store site.old) records.now ≡ Ok (E.store site.new)) }
+        (restored (E.media site.old) (E.store site.old) records.now ≡ Ok (E.store site.new)) }
     ensures fault { IfErr result (λ fault. fault ≢ RestoreFault.Memory
-        → restored (E.store site.old) records.now ≡ Err fault) }
+        → restored (E.media site.old) (E.store site.old) records.now ≡ Err fault) }
     ensures alike { E.alike site.old site.new }
 {
     let mut number = 0;
@@ -52,9 +52,9 @@ fn restore_record<E: Edits>(
     number: usize,
 ) -> Result<(), RestoreFault>
     ensures restored { OnOk result
-        (after_record (E.store site.old) number (edits_of text.now) ≡ Ok (E.store site.new)) }
+        (after_record (E.media site.old) (E.store site.old) number (edits_of text.now) ≡ Ok (E.store site.new)) }
     ensures fault { IfErr result (λ fault. fault ≢ RestoreFault.Memory
-        → after_record (E.store site.old) number (edits_of text.now) ≡ Err fault) }
+        → after_record (E.media site.old) (E.store site.old) number (edits_of text.now) ≡ Err fault) }
     ensures alike { E.alike site.old site.new }
 {
     let Some(events) = edits_of(heap, text)? else {
@@ -69,8 +69,8 @@ fn restore_record<E: Edits>(
 /// Makes the edits that these events are, up to the first that is refused, and answers which that is, counted from 1.
 fn make_all<E: Edits>(site: &mut E, events: &[Event]) -> Result<Option<usize>, Memory>
     ensures made { IfOk result (λ line. TellsLine line
-        (made_of (E.store site.old) events.now)
-        (line_refused 1 (E.store site.old) events.now) (E.store site.new)) }
+        (made_of (E.media site.old) (E.store site.old) events.now)
+        (line_refused (E.media site.old) 1 (E.store site.old) events.now) (E.store site.new)) }
     ensures alike { E.alike site.old site.new }
 {
     let mut number = 0;
@@ -86,7 +86,7 @@ fn make_all<E: Edits>(site: &mut E, events: &[Event]) -> Result<Option<usize>, M
 /// Makes the edit that an event is, and answers whether it is accepted.
 fn make<E: Edits>(site: &mut E, event: &Event) -> Result<bool, Memory>
     ensures made { IfOk result (λ accepted. Tells accepted
-        (made_by (E.store site.old) (edit_in event.now)) (E.store site.new)) }
+        (made_by (E.media site.old) (E.store site.old) (edit_in event.now)) (E.store site.new)) }
     ensures alike { E.alike site.old site.new }
 {
     match event {
@@ -98,7 +98,7 @@ fn make<E: Edits>(site: &mut E, event: &Event) -> Result<bool, Memory>
 /// Makes an edit, and answers whether it is accepted.
 fn make_edit<E: Edits>(site: &mut E, edit: &SiteEdit) -> Result<bool, Memory>
     ensures made { IfOk result (λ accepted. Tells accepted
-        (made (E.store site.old) edit.now) (E.store site.new)) }
+        (made (E.media site.old) (E.store site.old) edit.now) (E.store site.new)) }
     ensures alike { E.alike site.old site.new }
 {
     match edit {

@@ -1,11 +1,21 @@
 -- What edits and looks leave of a shelf.
-use Rattle.std.proofs.Common.{◌≡◌, ℕ, ◌+◌, ◌==◌, Bool, true, false, ltb, List, [], inl, inr, sym, ap, subst, ◌∙◌}
-use Rattle.std.specs.Prelude.{Ok, Err, IfSome, Option, Some, None, is_some, if◌then◌else◌}
+use Rattle.std.proofs.Common.{◌≡◌, ℕ, ◌+◌, ◌==◌, ◌++◌, codes, refl, Bool, true, false, ltb, List, [], inl, inr, sym, ap, subst, ◌∙◌}
+use Rattle.std.specs.Prelude.{Ok, Err, IfSome, Option, Some, None, is_some, option_map, if◌then◌else◌}
 use Rattle.std.specs.Borrow.{Bor}
 use Rattle.std.specs.FinMap as map
 use Rattle.doc_cache.specs.Caches.{Cached, cache_of, cached}
 use Rattle.doc_cache.specs.declared.failure.CacheError.TheVariants as cache_errors
+use Rattle.doc_media.specs.Media.{Beside}
+use Rattle.doc_media_links.proofs.FillingLaws.{pages_without_media}
+use Rattle.doc_media_links.specs.MediaLinks.{lead_to_media}
 use Rattle.doc_page_parts.specs.Refusals.{IsAnswer}
+use Rattle.doc_page_parts.specs.declared.rendered.Rendered.{Rendered}
+use Rattle.doc_people.specs.Folders.{first_text, short, title_by}
+use Rattle.doc_people.specs.Inert.{inert}
+use Rattle.doc_people.specs.Pages.{beside, heading_line, page_body}
+use Rattle.doc_people.specs.Shell.{shell}
+use Rattle.doc_resolve.specs.Links.{kinds}
+use Rattle.doc_store_readers.specs.Sites.{View, goal_in}
 use Rattle.doc_people.specs.declared.settings.Browse.{Browse}
 use Rattle.doc_people.specs.declared.settings.Offers.{Offers}
 use Rattle.doc_store_readers.specs.declared.reader.Reader.{Reader}
@@ -157,6 +167,26 @@ pub body_found : (render : Renders) (store : StoreState) (bodies : Bodies) (brow
 body_found render store bodies browse offers path reader None are keeps = tt
 body_found render store bodies browse offers path reader (Some text) are keeps =
     are.each (made_for browse offers path reader text.now) keeps
+
+-- ---- bodies of pages none of whose links leads to media
+
+module _ (render : Renders) (browse : Browse) (offers : Offers) (view : View) (media : Beside) (path : List ℕ) where
+  same_body : (page : Rendered) → lead_to_media media (kinds path page.pieces) ≡ false
+      → page_body render browse offers view media path page ≡ page_body render browse offers view None path page
+  unfolding page_body
+  same_body page none =
+      ap (λ html. shell render browse offers view (short (title_by path (first_text page.headings))) (Some path)
+      (codes "<article>\n" ++ heading_line path page.headings ++ inert html ++ codes "</article>\n") (beside render view path page))
+      (pages_without_media (goal_in view) media path page none)
+
+  -- a page that shows them among pages alone is the one that shows them
+  pub body_beside : (found : Option (Bor (List ℕ))) (rendered : Option Rendered)
+      → ((page : Rendered) → rendered ≡ Some page → lead_to_media media (kinds path page.pieces) ≡ false)
+      → IfSome found (λ text. option_map (page_body render browse offers view None path) rendered ≡ Some text.now)
+      → IfSome found (λ text. option_map (page_body render browse offers view media path) rendered ≡ Some text.now)
+  body_beside None rendered none is = tt
+  body_beside (Some text) None none is = is
+  body_beside (Some text) (Some page) none is = ap Some (same_body page (none page refl)) ∙ is
 
 -- ---- what puts answer, by what a shelf shows
 

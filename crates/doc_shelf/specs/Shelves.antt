@@ -75,10 +75,11 @@ pub record IsMoving (render : Renders) (pages : TextMap Page) (from to : List �
 
 -- ---- bodies, for people
 
--- a page for people is the one that shows the page at its path to the reader that it was made for, as they see the store
+-- a page for people is the one that shows the page at its path to the reader that it was made for, as they see the store, where its links
+-- lead to no media
 abbrev pub IsBody : Renders → StoreState → Made → Type 0
 IsBody render store one =
-    option_map (page_body render one.browse one.body.offers (seen_in store one.body.reader) one.path)
+    option_map (page_body render one.browse one.body.offers (seen_in store one.body.reader) None one.path)
     (rendered_at render (seen_in store one.body.reader) one.path) ≡ Some one.body.text
 
 -- each that is kept is that

@@ -1,21 +1,23 @@
 //! The shelf.
 
-ghost use Rattle.std.specs.Prelude.{◌≡◌, ◌+◌, not, IfOk, IfSome, Ok, OnErr, OnOk, Some, filter, length, option_copied, option_map, take};
+ghost use Rattle.std.specs.Prelude.{◌≡◌, ◌+◌, not, IfOk, IfSome, None, Ok, OnErr, OnOk, Some, filter, length, option_copied, option_map, take};
 ghost use Rattle.std.specs.FinMap as map;
 ghost use Rattle.doc_http_replies.specs.Heads.{dressed_bytes};
 ghost use Rattle.doc_http_replies.specs.Manners.{dress_of};
 ghost use Rattle.doc_http_replies.specs.ReplyForms.{reply_of};
 ghost use Rattle.doc_listings.specs.Listings.{contents_of_lines};
+ghost use Rattle.doc_media.specs.Media.{beside_of};
 ghost use Rattle.doc_page_parts.specs.Refusals.{Gives, IsAnswer};
 ghost use Rattle.doc_page_parts.specs.Pages.{filled};
 ghost use Rattle.doc_people.specs.Folders.{keys};
 ghost use Rattle.doc_people.specs.Hits.{hits};
+ghost use Rattle.doc_people.specs.KeptPaths.{is_kept};
 ghost use Rattle.doc_people.specs.Lists.{contents_from, sources_from};
 ghost use Rattle.doc_people.specs.Navigation.{is_before, last_ones};
 ghost use Rattle.doc_people.specs.Pages.{page_body};
 ghost use Rattle.doc_people.specs.Sources.{broken_links};
 ghost use Rattle.doc_people.specs.Views.{rendered_at, rendered_pages, sees};
-ghost use Rattle.doc_resolve.specs.Hrefs.{shown};
+ghost use Rattle.doc_media_links.specs.MediaLinks.{shown_beside};
 ghost use Rattle.doc_shelf.specs.Shelves.{rendered_for, shelf_made};
 ghost use Rattle.doc_shelf_documents.specs.Documents.{page_shown};
 ghost use Rattle.doc_shelf_pages.specs.RenderingSteps.{texts_of};
@@ -33,6 +35,7 @@ use doc_cache::failure::CacheError;
 use doc_http::manner::Manner;
 use doc_http::reply_form::ReplyForm;
 use doc_links_pages::answers::Broken;
+use doc_media::media::Media;
 use doc_page::renderer::Renderer;
 use doc_page_parts::bytes::Bytes;
 use doc_page_parts::failure::Memory;
@@ -145,28 +148,37 @@ impl<R: Renderer + Drop> Shelf<R> {
         &self.store
     }
 
-    /// What a reader sees of the pages, for the pages for people.
-    pub fn view<'a>(&'a self, reader: &'a Reader) -> ReaderView<'a, R>
-        ensures { result ≡ record { shelf = self.entry; reader = reader.entry } }
+    /// What a reader sees of the pages and of the media, for the pages for people.
+    pub fn view<'a>(&'a self, reader: &'a Reader, media: &'a Option<Media>) -> ReaderView<'a, R>
+        ensures { result
+            ≡ record { shelf = self.entry; reader = reader.entry; media = media.entry } }
     {
         ReaderView {
             shelf: self,
             reader,
+            media,
         }
     }
 
-    /// Keeps the page for people that shows a reader the page at a path, where they see one, unless it is kept. Where memory is refused it
-    /// isn't kept. Each edit drops all of these.
-    pub fn keep_body(&mut self, frame: Frame<'_>, path: &Path, reader: &Reader)
+    /// Keeps the page for people that shows a reader the page at a path, where they see one, unless it is kept or has a link to a medium
+    /// that they see. Where memory is refused it isn't kept. Each edit drops all of these.
+    pub fn keep_body(
+        &mut self,
+        frame: Frame<'_>,
+        path: &Path,
+        reader: &Reader,
+        media: &Option<Media>,
+    )
         ensures same { self.new ≡ self.old }
     {
-        if self
-            .kept_body(frame.browse, frame.offers, path, reader)
-            .is_some()
+        if pages::leads_to_media(&self.store, &self.kept, path, reader, media)
+            || self
+                .body_among_pages(frame.browse, frame.offers, path, reader)
+                .is_some()
         {
             return;
         }
-        let Ok(Some(body)) = page_body(frame, &self.view(reader), path) else {
+        let Ok(Some(body)) = page_body(frame, &self.view(reader, &None), path) else {
             return;
         };
         self.bodies
@@ -293,17 +305,19 @@ impl<R: Renderer + Drop> Shelf<R> {
         self.renderer.render(self.heap, text)
     }
 
-    /// The reply that shows a reader the page at a path, where they see one. It renders nothing. A document that was made for a reader
-    /// for whom the page's links lead to the same pages is taken as it is.
+    /// The reply that shows a reader the page at a path, where they see one, beside the media that they see. It renders nothing. A document
+    /// that was made for a reader for whom the page's links lead to the same pages and media is taken as it is, but for one with a link
+    /// that names a place in a medium.
     pub fn page(
         &mut self,
         path: &Path,
         reader: &Reader,
+        media: &Option<Media>,
         manner: Manner,
     ) -> Result<Option<Bytes>, Memory>
         ensures reply { IfOk result (λ reply. reply ≡ page_shown (R.page self.old.0)
-            (seen_in self.old.1 reader.now) path.now (dress_of manner.entry)
-            manner.entry.head_only manner.entry.close) }
+            (seen_in self.old.1 reader.now) (beside_of media.now (Some reader.now)) path.now
+            (dress_of manner.entry) manner.entry.head_only manner.entry.close) }
         ensures same { self.new ≡ self.old }
     {
         let Some(page) = visible_page(&self.store, reader, path) else {
@@ -315,7 +329,16 @@ impl<R: Renderer + Drop> Shelf<R> {
             manner,
         };
         let sight = self.store.sight(reader);
-        reply_with_page(writing, &self.kept, &mut self.cache, path, stamp, &sight)
+        reply_with_page(
+            writing,
+            &self.kept,
+            &mut self.cache,
+            path,
+            stamp,
+            &sight,
+            media,
+            reader,
+        )
     }
 
     /// The lines of the pages that a reader sees, each with its headings: what the page of contents is made of.
@@ -346,16 +369,39 @@ impl<R: Renderer + Drop> Shelf<R> {
         search(self.heap, &self.store, &self.kept, words, reader)
     }
 
-    /// The lines of the links that are broken for a reader.
-    pub fn report(&self, reader: &Reader) -> Result<Text, Memory>
+    /// The lines of the links that are broken for a reader, beside the media that they see.
+    pub fn report(&self, reader: &Reader, media: &Option<Media>) -> Result<Text, Memory>
         ensures { IfOk result (λ text. text
-            ≡ report_body (R.page self.now.0) (seen_in self.now.1 reader.now)) }
+            ≡ report_body (R.page self.now.0) (seen_in self.now.1 reader.now)
+            (beside_of media.now (Some reader.now))) }
     {
-        report(self.heap, &self.store, &self.kept, reader)
+        report(self.heap, &self.store, &self.kept, media, reader)
     }
 
-    /// The page for people that shows a reader the page at a path, as it was made for these settings and offers, where it is kept.
+    /// The page for people that shows a reader the page at a path, as it was made for these settings and offers, where it is kept. One with
+    /// a link to a medium that they see never is.
     pub(crate) fn kept_body(
+        &self,
+        browse: &Browse,
+        offers: Offers,
+        path: &Path,
+        reader: &Reader,
+        media: &Option<Media>,
+    ) -> Option<&Text>
+        ensures { IfSome result (λ text. option_map
+            (page_body (R.page self.now.0) browse.now offers
+            (seen_in self.now.1 reader.now) (beside_of media.now (Some reader.now)) path.now)
+            (rendered_at (R.page self.now.0) (seen_in self.now.1 reader.now) path.now)
+            ≡ Some text.now) }
+    {
+        if pages::leads_to_media(&self.store, &self.kept, path, reader, media) {
+            return None;
+        }
+        self.body_among_pages(browse, offers, path, reader)
+    }
+
+    /// The same of a page none of whose links leads to a medium.
+    fn body_among_pages(
         &self,
         browse: &Browse,
         offers: Offers,
@@ -364,7 +410,7 @@ impl<R: Renderer + Drop> Shelf<R> {
     ) -> Option<&Text>
         ensures { IfSome result (λ text. option_map
             (page_body (R.page self.now.0) browse.now offers
-            (seen_in self.now.1 reader.now) path.now)
+            (seen_in self.now.1 reader.now) None path.now)
             (rendered_at (R.page self.now.0) (seen_in self.now.1 reader.now) path.now)
             ≡ Some text.now) }
     {
@@ -398,13 +444,27 @@ impl<R: Renderer + Drop> Shelf<R> {
         pages::headings(self.heap, &self.store, &self.kept, path, reader)
     }
 
+    /// Whether a path is kept for media, as a reader sees pages and media.
+    pub(crate) fn is_kept(&self, path: &Path, reader: &Reader, media: &Option<Media>) -> bool
+        ensures { result ≡ is_kept (seen_in self.now.1 reader.now)
+            (beside_of media.now (Some reader.now)) path.now }
+    {
+        pages::is_kept(&self.store, path, reader, media)
+    }
+
     /// The HTML of the page at a path, where a reader sees one there.
-    pub(crate) fn html(&self, path: &Path, reader: &Reader) -> Result<Option<Text>, Memory>
+    pub(crate) fn html(
+        &self,
+        path: &Path,
+        reader: &Reader,
+        media: &Option<Media>,
+    ) -> Result<Option<Text>, Memory>
         ensures { IfOk result (λ html. html ≡ option_map
-            (filled (shown (goal_in (seen_in self.now.1 reader.now)) path.now))
+            (filled (shown_beside (goal_in (seen_in self.now.1 reader.now))
+            (beside_of media.now (Some reader.now)) path.now))
             (rendered_at (R.page self.now.0) (seen_in self.now.1 reader.now) path.now)) }
     {
-        pages::html(self.heap, &self.store, &self.kept, path, reader)
+        pages::html(self.heap, &self.store, &self.kept, path, reader, media)
     }
 
     /// The texts of the page at a path, where a reader sees one there. Of a shelf that isn't for people no texts are kept, and it answers
@@ -483,16 +543,30 @@ impl<R: Renderer + Drop> Shelf<R> {
     }
 
     /// The links that are broken for a reader. Of a shelf that isn't for people it answers `Memory`.
-    pub(crate) fn broken_from(&self, reader: &Reader, from: &str) -> Result<List<Broken>, Memory>
+    pub(crate) fn broken_from(
+        &self,
+        reader: &Reader,
+        media: &Option<Media>,
+        from: &str,
+    ) -> Result<List<Broken>, Memory>
         ensures { IfOk result (λ found. found
             ≡ filter (λ link. not (is_before link.source from.now))
-            (broken_links (R.page self.now.0) (seen_in self.now.1 reader.now))) }
+            (broken_links (R.page self.now.0) (seen_in self.now.1 reader.now)
+            (beside_of media.now (Some reader.now)))) }
     {
         if !self.kept.keeps_texts() {
             return Err(Memory);
         }
         let rows = &self.rows.by_group;
-        links::broken_from(self.heap, &self.store, &self.kept, rows, reader, from)
+        links::broken_from(
+            self.heap,
+            &self.store,
+            &self.kept,
+            rows,
+            reader,
+            media,
+            from,
+        )
     }
 
     /// What these terms find for a reader, and of that the first so many. Of a shelf that isn't for people it answers `Memory`.

@@ -1,6 +1,6 @@
 -- Documents of pages, kept and found.
-use Rattle.std.proofs.Common.{◌≡◌, ◌⊎◌, ℕ, List, Bool, true, false, inl, inr, refl, ap, sym, subst, ◌∙◌}
-use Rattle.std.specs.Prelude.{Option, Some, None, is_some, option_map}
+use Rattle.std.proofs.Common.{◌≡◌, ◌⊎◌, ℕ, List, ◌++◌, Bool, true, false, inl, inr, refl, ap, sym, subst, ◌∙◌}
+use Rattle.std.specs.Prelude.{Option, Some, None, codes, is_some, option_map}
 use Rattle.std.specs.FinMap as map
 use Rattle.std.proofs.lemmas.Bool.{both_ways}
 use Rattle.doc_cache.specs.Caches.{Cached, kept as kept_in_cache, looked, text_under}
@@ -9,14 +9,18 @@ use Rattle.doc_http_replies.specs.Heads.{Dress}
 use Rattle.doc_index_tables.specs.Maps.{PairMap}
 use Rattle.doc_links_pages.specs.declared.page_links.PageLinks.{PageLinks}
 use Rattle.doc_page_parts.specs.Pages.{filled}
-use Rattle.doc_shelf_pages.specs.Templates.{body_of}
+use Rattle.doc_media.specs.Media.{Beside, goal_beside}
+use Rattle.doc_media_links.proofs.PlaceLaws.{pages_without_places}
+use Rattle.doc_media_links.specs.MediaLinks.{name_places}
+use Rattle.doc_page_parts.specs.Escaping.{escaped}
+use Rattle.doc_resolve.specs.Links.{kinds}
+use Rattle.doc_shelf_pages.specs.Templates.{body_of, title_of}
 use Rattle.doc_page_parts.specs.declared.linker.Shown.{Shown}
 use Rattle.doc_page_parts.specs.declared.rendered.Rendered.{Rendered}
 use Rattle.doc_resolve.proofs.DecisionLaws.{decisions_are_goals}
 use Rattle.doc_resolve.specs.Decisions.{decisions, goals_of}
-use Rattle.doc_resolve.specs.Hrefs.{shown}
 use Rattle.doc_resolve.specs.declared.link_kind.LinkKind.{LinkKind}
-use Rattle.doc_shelf_documents.specs.Documents.{IsServed, document_reply, made_of, made_of_kept}
+use Rattle.doc_shelf_documents.specs.Documents.{IsServed, document_beside, document_reply, made_of, made_of_kept}
 use Rattle.doc_shelf_documents.specs.declared.documents.Made.{Made}
 use Rattle.doc_shelf_pages.proofs.Documents.{caches_have_documents, documents_are_found}
 use Rattle.doc_shelf_pages.proofs.KeptEdits.{what_is_kept_is_held}
@@ -46,14 +50,14 @@ bare_document true path how page = refl
 bare_document false path how page = refl
 
 -- the reply and the document of what is kept
-pub making_is : (dress : Dress) (head_only close : Bool) (kept : Kept) (goals : List ℕ → Option (List ℕ)) (path : List ℕ) (stamp : ℕ)
+pub making_is : (dress : Dress) (head_only close : Bool) (kept : Kept) (how : List ℕ → Shown) (path : List ℕ) (stamp : ℕ)
     (found : Rendered) (document reply : List ℕ) → Some found ≡ map.get kept.renderings (path, stamp)
-    → document ≡ body_of path (shown goals path) found → reply ≡ document_reply dress head_only close document
+    → document ≡ body_of path how found → reply ≡ document_reply dress head_only close document
     → ◌≡◌ {A = Option Made} (Some (record { reply = reply; document = document }))
-    (made_of_kept dress head_only close kept goals path stamp)
-making_is dress head_only close kept goals path stamp found document reply is made written =
+    (made_of_kept dress head_only close kept how path stamp)
+making_is dress head_only close kept how path stamp found document reply is made written =
     (λ i. Some (record { reply = (written ∙ ap (document_reply dress head_only close) made) i; document = made i }))
-    ∙ ap (option_map (λ page. made_of dress head_only close (body_of path (shown goals path) page))) is
+    ∙ ap (option_map (λ page. made_of dress head_only close (body_of path how page))) is
 
 module _ (render : Renders) (store : StoreState) (kept : Kept) (cache : Cached) (path : List ℕ) (stamp : ℕ) (page : Page)
     (served : IsServed render store kept cache path stamp page) where
@@ -71,6 +75,47 @@ module _ (render : Renders) (store : StoreState) (kept : Kept) (cache : Cached) 
       (none ∙ ap (λ i. option_map (λ (p : PageLinks). p.links) (map.get i (path, stamp))) same
       ∙ ap (option_map (λ (p : PageLinks). p.links)) links_kept)
 
+  module _ (how : List ℕ → Shown) where
+    -- what is made of what is kept is the page's document, and the reply with it
+    pub made_is : (dress : Dress) (head_only close : Bool) → made_of_kept dress head_only close kept how path stamp
+        ≡ Some (made_of dress head_only close (body_of path how (render page.text)))
+    made_is dress head_only close =
+        ap (option_map (λ found. made_of dress head_only close (body_of path how found))) rendering_kept
+        ∙ ap (λ document. Some (made_of dress head_only close document)) (bare_document kept.with_texts path how (render page.text))
+
+    pub making_gives : (dress : Dress) (head_only close : Bool) (made : Made)
+        → Some made ≡ made_of_kept dress head_only close kept how path stamp
+        → made ≡ made_of dress head_only close (body_of path how (render page.text))
+    making_gives dress head_only close made is =
+        some_is made (made_of dress head_only close (body_of path how (render page.text))) (is ∙ made_is dress head_only close)
+
+    pub making_gives_one : (dress : Dress) (head_only close : Bool) → None ≡ made_of_kept dress head_only close kept how path stamp → ⊥
+    making_gives_one dress head_only close none =
+        none_some (made_of dress head_only close (body_of path how (render page.text))) (none ∙ made_is dress head_only close)
+
+    -- and so is the reply that is made anew
+    pub anew_is : (dress : Dress) (head_only close : Bool)
+        → option_map (λ (made : Made). made.reply) (made_of_kept dress head_only close kept how path stamp)
+        ≡ Some (document_reply dress head_only close (body_of path how (render page.text)))
+    anew_is dress head_only close = ap (option_map (λ (made : Made). made.reply)) (made_is dress head_only close)
+
+  -- the links that are kept are the page's
+  pub links_are : (index : PairMap PageLinks) (links : List LinkKind) → index ≡ kept.links
+      → Some links ≡ option_map (λ (p : PageLinks). p.links) (map.get index (path, stamp))
+      → links ≡ kinds path (render page.text).pieces
+  links_are index links same found =
+      some_is links (links_in path (render page.text)).links
+      (found ∙ ap (λ i. option_map (λ (p : PageLinks). p.links) (map.get i (path, stamp))) same
+      ∙ ap (option_map (λ (p : PageLinks). p.links)) links_kept)
+
+  -- where none of them names a place in a medium, the document is the one by what they lead to
+  pub by_goals : (goals : List ℕ → Option (List ℕ)) (media : Beside) (links : List LinkKind)
+      → links ≡ kinds path (render page.text).pieces → name_places media links ≡ false
+      → document_of render (goal_beside goals media) path page ≡ document_beside render goals media path page
+  by_goals goals media links are none =
+      ap (λ html. codes "<!DOCTYPE html>\n<title>" ++ escaped (title_of path (render page.text).headings) ++ codes "</title>\n" ++ html)
+      (sym (pages_without_places goals media path (render page.text) (sym (ap (name_places media) are) ∙ none)))
+
   module _ (goals : List ℕ → Option (List ℕ)) where
     pub decided : (index : PairMap PageLinks) (links : List LinkKind) (all : List (Option (List ℕ))) → index ≡ kept.links
         → Some links ≡ option_map (λ (p : PageLinks). p.links) (map.get index (path, stamp)) → all ≡ goals_of goals links
@@ -81,24 +126,6 @@ module _ (render : Renders) (store : StoreState) (kept : Kept) (cache : Cached) 
         (found ∙ ap (λ i. option_map (λ (p : PageLinks). p.links) (map.get i (path, stamp))) same
         ∙ ap (option_map (λ (p : PageLinks). p.links)) links_kept))
         ∙ sym (decisions_are_goals goals path (render page.text))
-
-    -- what is made of what is kept is the page's document, and the reply with it
-    pub made_is : (dress : Dress) (head_only close : Bool) → made_of_kept dress head_only close kept goals path stamp
-        ≡ Some (made_of dress head_only close (document_of render goals path page))
-    made_is dress head_only close =
-        ap (option_map (λ found. made_of dress head_only close (body_of path (shown goals path) found))) rendering_kept
-        ∙ ap (λ document. Some (made_of dress head_only close document))
-        (bare_document kept.with_texts path (shown goals path) (render page.text))
-
-    pub making_gives : (dress : Dress) (head_only close : Bool) (made : Made)
-        → Some made ≡ made_of_kept dress head_only close kept goals path stamp
-        → made ≡ made_of dress head_only close (document_of render goals path page)
-    making_gives dress head_only close made is =
-        some_is made (made_of dress head_only close (document_of render goals path page)) (is ∙ made_is dress head_only close)
-
-    pub making_gives_one : (dress : Dress) (head_only close : Bool) → None ≡ made_of_kept dress head_only close kept goals path stamp → ⊥
-    making_gives_one dress head_only close none =
-        none_some (made_of dress head_only close (document_of render goals path page)) (none ∙ made_is dress head_only close)
 
     module _ (key : Key) (of : IsKeyOf render goals path stamp page key) where
       found_text : (dress : Dress) (head_only close : Bool) (text : Option (List ℕ)) → text_under cache key ≡ text

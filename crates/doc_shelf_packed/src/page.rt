@@ -23,6 +23,7 @@ pub struct PackedPage {
     pieces: Packed,
     headings: List<Heading>,
     texts: List<Text>,
+    images: List<Text>,
 }
 
 impl Model for PackedPage {
@@ -38,11 +39,12 @@ impl Model for PackedPage {
       pieces = pieces_in p.pieces;
       headings = p.headings;
       texts = p.texts;
+      images = p.images;
     } };
 }
 
 impl PackedPage {
-    /// The rendering, packed. Its headings and texts are moved, and its pieces are dropped.
+    /// The rendering, packed. Its headings, texts and images are moved, and its pieces are dropped.
     pub fn of(heap: Heap, page: Rendered) -> Result<PackedPage, Memory>
         ensures { IfOk result (λ packed. packed ≡ page) }
     {
@@ -50,6 +52,7 @@ impl PackedPage {
             pieces,
             headings,
             texts,
+            images,
         } = page;
         let entries = packing::texts_of(heap, pieces.get())?;
         let pieces = Packed::of_entries(heap, &entries)?;
@@ -57,6 +60,7 @@ impl PackedPage {
             pieces,
             headings,
             texts,
+            images,
         })
     }
 
@@ -68,6 +72,7 @@ impl PackedPage {
             pieces: self.pieces.copy(heap)?,
             headings: headings_of(heap, self.headings.get())?,
             texts: texts_of(heap, self.texts.get())?,
+            images: texts_of(heap, self.images.get())?,
         })
     }
 
@@ -83,6 +88,13 @@ impl PackedPage {
         ensures { result.now ≡ self.now.texts }
     {
         self.texts.get()
+    }
+
+    /// The destinations of the images, in order, as their sources are written.
+    pub fn images(&self) -> &[Text]
+        ensures { result.now ≡ self.now.images }
+    {
+        self.images.get()
     }
 
     /// The pieces, made anew.

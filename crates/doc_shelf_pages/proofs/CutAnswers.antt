@@ -22,7 +22,7 @@ same_bodies render view other same = record {
   of_contents = ap (contents_body render) same;
   of_backlinks = λ path. ap (λ v. backlinks_body render v path) same;
   of_search = λ words. ap (λ v. search_body render v words) same;
-  of_report = ap (report_body render) same;
+  of_report = λ media. ap (λ v. report_body render v media) same;
 }
 
 -- the view of whoever sees the whole of a site
@@ -83,8 +83,8 @@ stores_answer_alike render store other reader is also same = record {
       hits_are_the_views render store reader (held_words render store) words is refl
       ∙ ap (λ v. hits_in render v words) same
       ∙ sym (hits_are_the_views render other reader (held_words render other) words also refl);
-  of_report =
-      broken_are_the_views render store reader (held_links render store) is refl
-      ∙ ap (broken_in render) same
-      ∙ sym (broken_are_the_views render other reader (held_links render other) also refl);
+  of_report = λ media.
+      broken_are_the_views render store reader (held_links render store) media is refl
+      ∙ ap (λ v. broken_in render v media) same
+      ∙ sym (broken_are_the_views render other reader (held_links render other) media also refl);
 }

@@ -17,7 +17,9 @@ use Rattle.doc_resolve.specs.Links.{kind_on, kinds}
 use Rattle.doc_resolve.specs.References.{reference}
 use Rattle.doc_resolve.specs.Resolution.{resolve}
 use Rattle.doc_resolve.specs.WrittenPaths.{path_written}
-use Rattle.doc_links_pages.specs.Links.{backlinks, broken, contents}
+use Rattle.doc_links_pages.specs.Links.{backlinks, contents}
+use Rattle.doc_media.specs.Media.{Beside}
+use Rattle.doc_media_links.specs.Images.{broken_images}
 use Rattle.doc_listings.specs.Listings.{backlinks_text, entry_lines, heading_line, report_text}
 use Rattle.doc_store_readers.specs.declared.reader.Reader.{Reader}
 use Rattle.doc_store_readers.specs.Pages.{Page}
@@ -29,7 +31,7 @@ use Rattle.doc_shelf_pages.proofs.OnLists.{Entries, held_at, site_of, store_of, 
 -- one name to unfold where an example computes
 unfoldable computing : Unit {0}
 unfolding digits chars is_utf8 encode percent_decode percent_encode_byte encoded encoded_path escaped is_path kind_on kinds path_written
-    put_all reference resolve without_dots backlinks broken contents backlinks_text entry_lines heading_line report_text
+    put_all reference resolve without_dots backlinks broken_images contents backlinks_text entry_lines heading_line report_text
 computing = tt
 
 -- ---- readers, and pages for groups
@@ -59,6 +61,7 @@ two_links first second text = record {
   pieces = Html (codes "<p>") ∷ to first ∷ Html (codes "-</a> ") ∷ to second ∷ Html (codes "-</a></p>\n") ∷ [];
   headings = [];
   texts = text ∷ [];
+  images = [];
 }
 
 abbrev one_link : List ℕ → List ℕ → Rendered
@@ -66,6 +69,7 @@ one_link dest text = record {
   pieces = Html (codes "<p>") ∷ to dest ∷ Html (codes "-</a></p>\n") ∷ [];
   headings = [];
   texts = text ∷ [];
+  images = [];
 }
 
 abbrev two_headings : Rendered
@@ -74,10 +78,20 @@ two_headings = record {
   headings = record { level = 1; anchor = codes "kiwi--plum"; text = codes "Kiwi & plum" }
       ∷ record { level = 2; anchor = codes "kiwi"; text = codes "Kiwi" } ∷ [];
   texts = codes "Kiwi & plum" ∷ codes "Kiwi" ∷ [];
+  images = [];
+}
+
+-- a page with a link and with images: of two pictures, of one out of the site, of a page, and of no path
+abbrev pictured : Rendered
+pictured = record {
+  pieces = Html (codes "<p>") ∷ to (codes "gone.md") ∷ Html (codes "-</a></p>\n") ∷ [];
+  headings = [];
+  texts = codes "-" ∷ [];
+  images = codes "b.png" ∷ codes "c.png" ∷ codes "https://example.org/d.png" ∷ codes "v.md" ∷ codes "a//b.png" ∷ [];
 }
 
 abbrev paragraph : List ℕ → Rendered
-paragraph text = record { pieces = Html (codes "<p>" ++ text ++ codes "</p>\n") ∷ []; headings = []; texts = text ∷ [] }
+paragraph text = record { pieces = Html (codes "<p>" ++ text ++ codes "</p>\n") ∷ []; headings = []; texts = text ∷ []; images = [] }
 
 abbrev by_table : Renders
 by_table text =
@@ -85,6 +99,7 @@ by_table text =
     else if bytes_eq text (codes "See [b](b.md), [b](b.md).\n") then two_links (codes "b.md") (codes "b.md") (codes "See b, b.")
     else if bytes_eq text (codes "[t](t.md) [t](t.md)") then two_links (codes "t.md") (codes "t.md") (codes "t t")
     else if bytes_eq text (codes "[t](t.md#q)") then one_link (codes "t.md#q") (codes "t")
+    else if bytes_eq text (codes "pictures") then pictured
     else if bytes_eq text (codes "# Kiwi & plum\n\n## Kiwi\n") then two_headings
     else paragraph text
 
@@ -120,19 +135,19 @@ links_to_v_for_ann : backlinks_body by_table (view_on three [] ann) (codes "v.md
 unfolding computing
 links_to_v_for_ann = refl
 
-report_computed_for_ann : report_body by_table (view_on three [] ann) ≡ []
+report_computed_for_ann : report_body by_table (view_on three [] ann) None ≡ []
 unfolding computing
 report_computed_for_ann = refl
 
-report_for_ann : report_body by_table (view_of (site_of three []) ann) ≡ []
-report_for_ann = ap (report_body by_table) three_for_ann ∙ report_computed_for_ann
+report_for_ann : report_body by_table (view_of (site_of three []) ann) None ≡ []
+report_for_ann = ap (λ v. report_body by_table v None) three_for_ann ∙ report_computed_for_ann
 
-report_computed_for_an_owner : report_body by_table (view_on three [] owner) ≡ codes "v.md\t1\tanchor\tt.md#q\n"
+report_computed_for_an_owner : report_body by_table (view_on three [] owner) None ≡ codes "v.md\t1\tanchor\tt.md#q\n"
 unfolding computing
 report_computed_for_an_owner = refl
 
-report_for_an_owner : report_body by_table (view_of (site_of three []) owner) ≡ codes "v.md\t1\tanchor\tt.md#q\n"
-report_for_an_owner = ap (report_body by_table) three_for_an_owner ∙ report_computed_for_an_owner
+report_for_an_owner : report_body by_table (view_of (site_of three []) owner) None ≡ codes "v.md\t1\tanchor\tt.md#q\n"
+report_for_an_owner = ap (λ v. report_body by_table v None) three_for_an_owner ∙ report_computed_for_an_owner
 
 contents_computed_for_ann : contents_body by_table (view_on three [] ann)
     ≡ codes "<!DOCTYPE html>\n<title>Contents</title>\n<ul>\n<li><a href=\"/page/t.md\">t.md</a></li>\n"
@@ -198,23 +213,23 @@ links_to_the_moved_page : backlinks_body by_table (view_of (site_of moved moved_
 links_to_the_moved_page = ap (λ v. backlinks_body by_table v (codes "e/c.md")) moved_for_an_owner ∙ alias_counts
 
 -- the links of the moved page are those from its new place
-moved_links_break : report_body by_table (view_on moved moved_from owner)
+moved_links_break : report_body by_table (view_on moved moved_from owner) None
     ≡ codes "b.md\t2\tpage\td.md\ne/c.md\t1\tpage\te/b.md\ne/c.md\t2\tpage\te/b.md\n"
 unfolding computing
 moved_links_break = refl
 
-report_after_the_move : report_body by_table (view_of (site_of moved moved_from) owner)
+report_after_the_move : report_body by_table (view_of (site_of moved moved_from) owner) None
     ≡ codes "b.md\t2\tpage\td.md\ne/c.md\t1\tpage\te/b.md\ne/c.md\t2\tpage\te/b.md\n"
-report_after_the_move = ap (report_body by_table) moved_for_an_owner ∙ moved_links_break
+report_after_the_move = ap (λ v. report_body by_table v None) moved_for_an_owner ∙ moved_links_break
 
 -- an alias of a hidden page leads nowhere
-hidden_alias : report_body by_table (view_on moved moved_from ann) ≡ codes "b.md\t1\tpage\tc.md\nb.md\t2\tpage\td.md\n"
+hidden_alias : report_body by_table (view_on moved moved_from ann) None ≡ codes "b.md\t1\tpage\tc.md\nb.md\t2\tpage\td.md\n"
 unfolding computing
 hidden_alias = refl
 
-report_after_the_move_for_ann : report_body by_table (view_of (site_of moved moved_from) ann)
+report_after_the_move_for_ann : report_body by_table (view_of (site_of moved moved_from) ann) None
     ≡ codes "b.md\t1\tpage\tc.md\nb.md\t2\tpage\td.md\n"
-report_after_the_move_for_ann = ap (report_body by_table) moved_for_ann ∙ hidden_alias
+report_after_the_move_for_ann = ap (λ v. report_body by_table v None) moved_for_ann ∙ hidden_alias
 
 -- moved back, its links are whole again, and e/c.md is the alias
 abbrev back : Entries Page
@@ -225,12 +240,40 @@ back =
 abbrev back_from : Entries (List ℕ)
 back_from = (codes "e/c.md", codes "c.md") ∷ []
 
-moved_back : report_body by_table (view_on back back_from owner) ≡ codes "b.md\t2\tpage\td.md\n"
+moved_back : report_body by_table (view_on back back_from owner) None ≡ codes "b.md\t2\tpage\td.md\n"
 unfolding computing
 moved_back = refl
 
-report_after_the_move_back : report_body by_table (view_of (site_of back back_from) owner) ≡ codes "b.md\t2\tpage\td.md\n"
-report_after_the_move_back = ap (report_body by_table) (view_is back back_from tt tt owner) ∙ moved_back
+report_after_the_move_back : report_body by_table (view_of (site_of back back_from) owner) None ≡ codes "b.md\t2\tpage\td.md\n"
+report_after_the_move_back = ap (λ v. report_body by_table v None) (view_is back back_from tt tt owner) ∙ moved_back
+
+-- ---- images: o.md is for others, and ann sees one picture of two
+
+abbrev gallery : Entries Page
+gallery =
+    (codes "o.md", page_for ops (codes "pictures")) ∷ (codes "p.md", page_for staff (codes "pictures"))
+    ∷ (codes "v.md", page_for staff (codes "[t](t.md#q)")) ∷ []
+
+abbrev one_picture : Beside
+one_picture = Some ((codes "b.png", page_for staff (codes "x")) ∷ [])
+
+gallery_for_ann : view_of (site_of gallery []) ann ≡ view_on gallery [] ann
+gallery_for_ann = view_is gallery [] tt tt ann
+
+-- page by page the links, and behind them the images by their own places: of the hidden page none
+images_computed : report_body by_table (view_on gallery [] ann) one_picture
+    ≡ codes "p.md\t1\tpage\tgone.md\np.md\t2\timage\tc.png\np.md\t4\timage\tv.md\np.md\t5\timage\t-\nv.md\t1\tpage\tt.md\n"
+unfolding computing
+images_computed = refl
+
+images_for_ann : report_body by_table (view_of (site_of gallery []) ann) one_picture
+    ≡ codes "p.md\t1\tpage\tgone.md\np.md\t2\timage\tc.png\np.md\t4\timage\tv.md\np.md\t5\timage\t-\nv.md\t1\tpage\tt.md\n"
+images_for_ann = ap (λ v. report_body by_table v one_picture) gallery_for_ann ∙ images_computed
+
+-- where there are no media no image is looked at
+images_without_media : report_body by_table (view_on gallery [] ann) None ≡ codes "p.md\t1\tpage\tgone.md\nv.md\t1\tpage\tt.md\n"
+unfolding computing
+images_without_media = refl
 
 -- ---- what is held: the moved page under its new path and its new stamp alone
 

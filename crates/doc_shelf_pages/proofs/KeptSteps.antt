@@ -49,3 +49,8 @@ pieces_of_kept false page = refl
 pub headings_of_kept : (with_texts : Bool) (page : Rendered) → (kept_of with_texts page).headings ≡ page.headings
 headings_of_kept true page = refl
 headings_of_kept false page = refl
+
+-- and its images
+pub images_of_kept : (with_texts : Bool) (page : Rendered) → (kept_of with_texts page).images ≡ page.images
+images_of_kept true page = refl
+images_of_kept false page = refl

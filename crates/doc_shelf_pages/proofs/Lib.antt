@@ -4,6 +4,8 @@ pub mod LinedSteps
 pub mod KeptSteps
 pub mod CutAnswers
 mod Examples
+pub mod ImagedSteps
+pub mod ImageSteps
 pub mod HeldLaws
 pub mod KnownLaws
 pub mod MapSteps

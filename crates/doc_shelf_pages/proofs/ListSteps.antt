@@ -3,7 +3,7 @@ use Rattle.std.proofs.Common.{◌≡◌, ℕ, List, [], ◌++◌, ◌∷◌, Boo
 use Rattle.std.specs.Prelude.{Option, Some, None, is_some, if◌then◌else◌}
 use Rattle.std.proofs.lemmas.Bool.{both_ways}
 use Rattle.doc_index_tables.specs.Maps.{PairMap, TextMap}
-use Rattle.doc_links_pages.specs.Links.{backlinks, broken, page_at as page_with_links}
+use Rattle.doc_links_pages.specs.Links.{backlinks, broken_with, page_at as page_with_links}
 use Rattle.doc_links_pages.specs.Names.{AreNames as WrittenNames}
 use Rattle.doc_links_pages.specs.PageLinks.{IsOnce, pages_of as pages_with_links}
 use Rattle.doc_links_pages.specs.declared.answers.Broken.{Broken}
@@ -14,6 +14,7 @@ use Rattle.doc_page_parts.specs.declared.rendered.Rendered.{Rendered}
 use Rattle.doc_store_readers.proofs.KeySteps.{bytes_eq_is, same_from, same_itself}
 use Rattle.doc_page_parts.specs.Sights.{leads_to_itself, seen}
 use Rattle.doc_shelf_pages.proofs.KeptEdits.{what_is_kept_is_held}
+use Rattle.doc_shelf_pages.specs.Images.{images_behind}
 use Rattle.doc_shelf_pages.specs.Shelves.{IsKept}
 use Rattle.doc_shelf_pages.specs.KeptPages.{Kept}
 use Rattle.doc_shelf_pages.proofs.HeldLaws.{each_is_held_once}
@@ -22,6 +23,8 @@ use Rattle.doc_shelf_pages.proofs.ViewAnswers.{backlinks_are_the_views, broken_a
 use Rattle.doc_shelf_pages.proofs.ViewAnswers.{links_are}
 use Rattle.doc_shelf_pages.specs.Held.{held_links, held_words}
 use Rattle.doc_shelf_pages.specs.ViewLaws.{links_seen, seen_in, words_seen}
+use Rattle.doc_media.specs.Media.{Beside}
+use Rattle.doc_media_links.specs.MediaLinks.{broken_beside}
 use Rattle.doc_shelf_pages.specs.Views.{Renders, backlinks_body, backlinks_in, broken_in, hits_in, links_in, report_body}
 use Rattle.doc_store.specs.Names.{AreNames, names_of}
 use Rattle.doc_store_readers.specs.Pages.{Page}
@@ -78,14 +81,20 @@ module _ (render : Renders) (store : StoreState) (kept : Kept) (reader : Reader)
     linked_are : linked_in view index ≡ links_seen store reader index
     linked_are = ap (λ v. linked_in v index) sees
 
-    pub broken_are : (links : List Broken) → links ≡ broken (goal_in view) (linked_in view index)
-        → links ≡ broken_in render (seen_in store reader)
-    broken_are links are =
-        are ∙ ap (λ v. broken (goal_in v) (linked_in v index)) sees ∙ broken_are_the_views render store reader index is held
+    -- what is broken, where the index was told what stands behind the links of pages
+    pub broken_are : (media : Beside) (links told : List Broken)
+        → links ≡ broken_with (images_behind render store media) (goal_in view) (linked_in view index)
+        → told ≡ broken_beside media links → told ≡ broken_in render (seen_in store reader) media
+    broken_are media links told are unbroken =
+        unbroken
+        ∙ ap (broken_beside media) (are
+        ∙ ap (λ v. broken_with (images_behind render store media) (goal_in v) (linked_in v index)) sees)
+        ∙ broken_are_the_views render store reader index media is held
 
-    pub report_is : (links : List Broken) → links ≡ broken (goal_in view) (linked_in view index)
-        → report_text links ≡ report_body render (seen_in store reader)
-    report_is links are = ap report_text (broken_are links are)
+    pub report_is : (media : Beside) (links told : List Broken)
+        → links ≡ broken_with (images_behind render store media) (goal_in view) (linked_in view index)
+        → told ≡ broken_beside media links → report_text told ≡ report_body render (seen_in store reader) media
+    report_is media links told are unbroken = ap report_text (broken_are media links told are unbroken)
 
     pub sources_are : (path : List ℕ) (sources : List (List ℕ × ℕ)) → sources ≡ backlinks (goal_in view) (linked_in view index) path
         → sources ≡ backlinks_in render (seen_in store reader) path

@@ -34,7 +34,7 @@ page_for groups text = record { groups = groups; text = text }
 
 -- a renderer that makes one paragraph of each text
 abbrev paragraph : Renders
-paragraph text = record { pieces = Html (codes "<p>" ++ text ++ codes "</p>\n") ∷ []; headings = []; texts = text ∷ [] }
+paragraph text = record { pieces = Html (codes "<p>" ++ text ++ codes "</p>\n") ∷ []; headings = []; texts = text ∷ []; images = [] }
 
 abbrev kiwi : List ℕ
 kiwi = codes "kiwi"

@@ -7,7 +7,8 @@ use Rattle.std.specs.List.Sorted.{IsStrictlySortedBy}
 use Rattle.std.specs.Map.{keys_of}
 use Rattle.std.specs.Ordering.{nat_cmp}
 use Rattle.std.proofs.lemmas.Simd.{map-map}
-use Rattle.doc_links_pages.specs.Links.{backlinks, broken, contents}
+use Rattle.doc_links_pages.specs.Links.{backlinks, broken_with, contents}
+use Rattle.doc_media_links.specs.MediaLinks.{broken_beside}
 use Rattle.doc_page_parts.specs.Sights.{seen}
 use Rattle.doc_page_parts.specs.declared.rendered.Rendered.{Rendered}
 use Rattle.doc_store_readers.proofs.FilterSteps.{keys_in_order}
@@ -22,7 +23,9 @@ use Rattle.doc_shelf_pages.specs.Held.{by_path, held_links, held_of, held_words,
 use Rattle.doc_shelf_pages.specs.ViewLaws.{BacklinksAreTheViews, BrokenAreTheViews, ContentsAreTheViews, HeldIsSeen, HitsAreTheViews}
 use Rattle.doc_shelf_pages.specs.ViewLaws.{links_seen, seen_in, words_seen}
 use Rattle.doc_shelf_pages.specs.Views.{Renders, counted_pages, linked_pages, links_in, rendered_pages}
+use Rattle.doc_shelf_pages.specs.Images.{images_behind}
 use Rattle.doc_shelf_pages.proofs.HeldLaws.{by_path-held_of}
+use Rattle.doc_shelf_pages.proofs.ImageSteps.{seen_told}
 use Rattle.doc_shelf_pages.proofs.MapSteps.{by_path-with_each}
 
 module _ (render : Renders) (store : StoreState) (reader : Reader) (is : IsStore store) where
@@ -72,8 +75,10 @@ backlinks_are_the_views render store reader index path is held =
     (ap (links_seen store reader) held ∙ links_are render store reader is)
 
 pub broken_are_the_views : BrokenAreTheViews
-broken_are_the_views render store reader index is held =
-    ap (broken (goal_in (seen_in store reader))) (ap (links_seen store reader) held ∙ links_are render store reader is)
+broken_are_the_views render store reader index media is held =
+    ap (λ pages. broken_beside media (broken_with (images_behind render store media) (goal_in (seen_in store reader)) pages))
+    (ap (links_seen store reader) held ∙ links_are render store reader is)
+    ∙ seen_told render store reader media
 
 pub hits_are_the_views : HitsAreTheViews
 hits_are_the_views render store reader index words is held =

@@ -1,6 +1,7 @@
 pub mod KeptPages
 pub mod RenderingSteps
 pub mod Held
+pub mod Images
 pub mod ViewLaws
 pub mod Views
 pub mod EditLaws

@@ -1,5 +1,5 @@
 -- How renderings are held, with the lines that contents have of their pages.
-use Rattle.std.specs.Prelude.{◌≡◌, ℕ, List, [], ◌∷◌, Bool, Option, Some, None, if◌then◌else◌, map as mapped}
+use Rattle.std.specs.Prelude.{◌≡◌, ℕ, List, [], ◌∷◌, Bool, false, Option, Some, None, if◌then◌else◌, map as mapped}
 use Rattle.std.specs.Borrow.{Bor}
 use Rattle.std.specs.FinMap as map
 use Rattle.doc_index.specs.Held.{Known, held}
@@ -35,6 +35,14 @@ renderings_in slots = with_values (λ (page : Known Lined). page.value.page) (he
 abbrev pub AreLined : List (Option (Held Lined)) → Type 0
 AreLined slots =
     (k : List ℕ × ℕ) (page : Known Lined) → map.get (held slots) k ≡ Some page → page.value ≡ lined k.0 page.value.page
+
+-- no rendering has images
+abbrev pub HasNoImages : PairMap Rendered → Type 0
+HasNoImages pages = (k : List ℕ × ℕ) (page : Rendered) → map.get pages k ≡ Some page → page.images ≡ []
+
+-- where none with images was held ever, none has images
+abbrev pub AreImaged : Bool → List (Option (Held Lined)) → Type 0
+AreImaged imaged slots = imaged ≡ false → HasNoImages (renderings_in slots)
 
 -- renderings with a copy of one, if it is there, under a path and a stamp
 abbrev pub with_copy : PairMap Rendered → Option Rendered → List ℕ → ℕ → PairMap Rendered

@@ -7,8 +7,9 @@ use Rattle.std.specs.List.Sorted.{IsStrictlySortedBy}
 use Rattle.std.specs.Map.{keys_of}
 use Rattle.std.specs.Ordering.{nat_cmp}
 use Rattle.doc_index_tables.specs.Maps.{PairMap, TextMap}
-use Rattle.doc_links_pages.specs.Links.{backlinks, broken, contents, leads_to}
+use Rattle.doc_links_pages.specs.Links.{backlinks, broken_with, contents, leads_to}
 use Rattle.doc_links_pages.specs.PageLinks.{IsOnce, pages_of as pages_with_links}
+use Rattle.doc_links_pages.specs.declared.answers.Broken.{Broken}
 use Rattle.doc_links_pages.specs.declared.page_links.PageLinks.{PageLinks}
 use Rattle.doc_page_parts.specs.Sights.{seen}
 use Rattle.doc_resolve.specs.declared.link_kind.LinkKind.TheVariants.{Page as page_link}
@@ -20,6 +21,9 @@ use Rattle.doc_store.specs.Store.{StoreState, IsStore}
 use Rattle.doc_words_search.specs.Searches.{search, pages_of as pages_with_words}
 use Rattle.doc_words_search.specs.Words.{word_counts}
 use Rattle.doc_shelf_pages.specs.Held.{HasOneStamp, by_path, held_links, held_of, held_words, rendered_under}
+use Rattle.doc_media.specs.Media.{Beside}
+use Rattle.doc_media_links.specs.MediaLinks.{broken_beside}
+use Rattle.doc_shelf_pages.specs.Images.{images_behind}
 use Rattle.doc_shelf_pages.specs.Views.{Renders, backlinks_body, backlinks_in, broken_in, contents_body, contents_in, hits_in}
 use Rattle.doc_shelf_pages.specs.Views.{links_in, rendered_pages, report_body, search_body}
 
@@ -34,6 +38,12 @@ links_seen store reader index = seen (goal_in (seen_in store reader)) (pages_wit
 -- and with its words
 abbrev pub words_seen : StoreState → Reader → PairMap (TextMap ℕ) → List (List ℕ × TextMap ℕ)
 words_seen store reader index = seen (goal_in (seen_in store reader)) (pages_with_words index)
+
+-- the links of these that are broken where a reader sees these media, and behind those of each page its images that show nothing
+abbrev pub broken_seen : Renders → StoreState → Reader → PairMap PageLinks → Beside → List Broken
+broken_seen render store reader index media =
+    broken_beside media
+    (broken_with (images_behind render store media) (goal_in (seen_in store reader)) (links_seen store reader index))
 
 -- ---- what is held
 
@@ -86,9 +96,9 @@ BacklinksAreTheViews =
 
 abbrev pub BrokenAreTheViews : Type 0
 BrokenAreTheViews =
-    (render : Renders) (store : StoreState) (reader : Reader) (index : PairMap PageLinks)
+    (render : Renders) (store : StoreState) (reader : Reader) (index : PairMap PageLinks) (media : Beside)
     → IsStore store → index ≡ held_links render store
-    → broken (goal_in (seen_in store reader)) (links_seen store reader index) ≡ broken_in render (seen_in store reader)
+    → broken_seen render store reader index media ≡ broken_in render (seen_in store reader) media
 
 abbrev pub HitsAreTheViews : Type 0
 HitsAreTheViews =
@@ -125,7 +135,7 @@ pub record SameBodies (render : Renders) (view other : View) : Type 0 where
   pub of_contents : contents_body render view ≡ contents_body render other
   pub of_backlinks : (path : List ℕ) → backlinks_body render view path ≡ backlinks_body render other path
   pub of_search : (words : List (List ℕ)) → search_body render view words ≡ search_body render other words
-  pub of_report : report_body render view ≡ report_body render other
+  pub of_report : (media : Beside) → report_body render view media ≡ report_body render other media
 
 -- What a reader is answered of a site is what is answered of the cut of it, taken as a site: to that reader, and to an owner, who sees
 -- the whole of it.
@@ -144,8 +154,8 @@ pub record SameAnswers (render : Renders) (store other : StoreState) (reader : R
       ≡ backlinks (goal_in (seen_in other reader)) (links_seen other reader (held_links render other)) path
   pub of_search : (words : List (List ℕ))
       → search (words_seen store reader (held_words render store)) words ≡ search (words_seen other reader (held_words render other)) words
-  pub of_report : broken (goal_in (seen_in store reader)) (links_seen store reader (held_links render store))
-      ≡ broken (goal_in (seen_in other reader)) (links_seen other reader (held_links render other))
+  pub of_report : (media : Beside) → broken_seen render store reader (held_links render store) media
+      ≡ broken_seen render other reader (held_links render other) media
 
 -- where the reader's views of two stores are the same: whatever else stands in them, and whatever stamps their pages have
 abbrev pub StoresAnswerAlike : Type 0

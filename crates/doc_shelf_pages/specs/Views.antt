@@ -1,12 +1,15 @@
 -- The lists that a reader is answered, of the reader's view alone: contents, backlinks, what a search finds, and broken links; as lists
 -- and as the text that is sent. All of this is this project's choice.
 use Rattle.std.specs.Prelude.{ℕ, List, map as mapped}
+use Rattle.std.specs.List.{flat_map}
 use Rattle.doc_index_tables.specs.Maps.{TextMap}
-use Rattle.doc_links_pages.specs.Links.{backlinks, broken, contents}
+use Rattle.doc_links_pages.specs.Links.{backlinks, contents}
 use Rattle.doc_links_pages.specs.PageLinks.{page_links}
 use Rattle.doc_links_pages.specs.declared.answers.Broken.{Broken}
 use Rattle.doc_links_pages.specs.declared.answers.Entry.{Entry}
 use Rattle.doc_links_pages.specs.declared.page_links.PageLinks.{PageLinks}
+use Rattle.doc_media.specs.Media.{Beside}
+use Rattle.doc_media_links.specs.Images.{told_of}
 use Rattle.doc_listings.specs.Listings.{backlinks_text, contents_text, hits_text, report_text}
 use Rattle.doc_page_parts.specs.declared.rendered.Rendered.{Rendered}
 use Rattle.doc_store_readers.specs.Sites.{View, goal_in}
@@ -50,9 +53,9 @@ backlinks_in render view path = backlinks (goal_in view) (linked_pages render vi
 abbrev pub hits_in : Renders → View → List (List ℕ) → List Hit
 hits_in render view words = search (counted_pages render view) words
 
--- the links that are broken
-abbrev pub broken_in : Renders → View → List Broken
-broken_in render view = broken (goal_in view) (linked_pages render view)
+-- page by page the links that are broken where these media are seen, and behind them the images that show nothing
+abbrev pub broken_in : Renders → View → Beside → List Broken
+broken_in render view media = flat_map (told_of (goal_in view) (linked_pages render view) media) (rendered_pages render view)
 
 -- ---- bodies: the lists as text
 
@@ -65,5 +68,5 @@ backlinks_body render view path = backlinks_text (backlinks_in render view path)
 abbrev pub search_body : Renders → View → List (List ℕ) → List ℕ
 search_body render view words = hits_text (hits_in render view words)
 
-abbrev pub report_body : Renders → View → List ℕ
-report_body render view = report_text (broken_in render view)
+abbrev pub report_body : Renders → View → Beside → List ℕ
+report_body render view media = report_text (broken_in render view media)

@@ -25,10 +25,12 @@ fn without_texts(heap: Heap, page: Rendered) -> Rendered
         pieces,
         headings,
         texts: _,
+        images,
     } = page;
     Rendered {
         pieces,
         headings,
         texts: List::new(Vec::new(heap)),
+        images,
     }
 }

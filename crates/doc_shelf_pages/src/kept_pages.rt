@@ -1,10 +1,10 @@
 //! What is kept of pages.
 
-ghost use Rattle.std.specs.Prelude.{◌≡◌, IfOk, OnOk, OnErr, map as mapped, option_copied};
+ghost use Rattle.std.specs.Prelude.{◌≡◌, false, IfOk, OnOk, OnErr, map as mapped, option_copied};
 ghost use Rattle.std.specs.FinMap as map;
 ghost use Rattle.doc_shelf_pages.specs.Held.{by_path};
 ghost use Rattle.doc_shelf_pages.specs.KeptPages.{IsFree, carried, none_kept, with_page, without_page};
-ghost use Rattle.doc_shelf_pages.specs.RenderingSteps.{flagged, lines_at, texts_of};
+ghost use Rattle.doc_shelf_pages.specs.RenderingSteps.{HasNoImages, flagged, lines_at, texts_of};
 
 use crate::keeping::kept_of;
 use crate::renderings::Renderings;
@@ -98,6 +98,13 @@ impl KeptPages {
         ensures { option_copied result ≡ map.get self.now.renderings (path.now, stamp) }
     {
         self.renderings.get(path, stamp)
+    }
+
+    /// Whether a page may have images. It answers so too where one had and has gone.
+    pub fn may_have_images(&self) -> bool
+        ensures { result ≡ false → HasNoImages self.now.renderings }
+    {
+        self.renderings.may_have_images()
     }
 
     /// The lines that contents have of the pages whose flags are set, where each page has one, in the order of the paths.

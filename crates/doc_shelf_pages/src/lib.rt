@@ -8,13 +8,14 @@
 //! one to the other: what is held, asked by what a reader sees, answers what the definitions say of the reader's view. `specs/Shelves`
 //! says what is kept of the pages of a store, and which documents may stand in a cache; `edit_laws` say that edits of the store, with
 //! what goes with them, keep both so. `edits` makes these edits, `lists` the lists, of which `flags` tells the pages that are seen and
-//! `hits` what a search finds; `named` finds paths that texts are, and `visible` the page that a reader may see.
+//! `hits` what a search finds, and `images` what is told of the images of pages; `named` finds paths that texts are, and `visible` the page that a reader may see.
 #![tactic(auto)]
 
 pub mod edit_laws;
 pub mod edits;
 mod flags;
 mod hits;
+pub mod images;
 mod keeping;
 mod kept_pages;
 mod lined;

@@ -4,6 +4,7 @@ ghost use Rattle.std.specs.Prelude.{◌≡◌, IfOk, Some};
 ghost use Rattle.doc_links_pages.specs.Links.{backlinks};
 ghost use Rattle.doc_listings.specs.Listings.{contents_of_lines};
 ghost use Rattle.doc_links_pages.specs.PageLinks.{pages_of};
+ghost use Rattle.doc_media.specs.Media.{beside_of};
 ghost use Rattle.doc_page_parts.specs.Sights.{seen};
 ghost use Rattle.doc_shelf_pages.specs.RenderingSteps.{texts_of as lines_in};
 ghost use Rattle.doc_shelf_pages.specs.Shelves.{IsKept};
@@ -18,7 +19,10 @@ ghost use Rattle.doc_store.specs.Store.{IsStore};
 use crate::KeptPages;
 use crate::flags::flags_of;
 use crate::hits::hits_of;
+use crate::images::ImageTeller;
 use doc_listings::{push_backlinks, push_hits, push_report};
+use doc_media::media::Media;
+use doc_media_links::unbroken;
 use doc_page_parts::failure::Memory;
 use doc_page_parts::heap::{Heap, String, Vec};
 use doc_page_parts::list::List;
@@ -114,15 +118,32 @@ pub fn search(
     Ok(Text::new(out))
 }
 
-/// The broken links of the pages that a reader sees: a line for each.
-pub fn report(heap: Heap, store: &Store, kept: &KeptPages, reader: &Reader) -> Result<Text, Memory>
+/// The broken links of the pages that a reader sees, beside the media that they see, and behind those of each page its images that show
+/// nothing: a line for each.
+pub fn report(
+    heap: Heap,
+    store: &Store,
+    kept: &KeptPages,
+    media: &Option<Media>,
+    reader: &Reader,
+) -> Result<Text, Memory>
     requires kept { (render : Renders) × IsStore store.now × IsKept render store.now kept.now }
     ensures { (render : Renders) → IsKept render store.now kept.now
-        → IfOk result (λ text. text ≡ report_body render (seen_in store.now reader.now)) }
+        → IfOk result (λ text. text ≡ report_body render (seen_in store.now reader.now)
+        (beside_of media.now (Some reader.now))) }
 {
     let flags = flags_of(heap, store, reader)?;
-    let links = kept.links().broken_flagged(&flags, &store.sight(reader))?;
+    let images = ImageTeller {
+        heap,
+        kept,
+        media,
+        reader,
+    };
+    let broken = kept
+        .links()
+        .broken_flagged(&flags, &store.sight(reader), &images)?;
+    let told = unbroken(heap, broken, media, reader)?;
     let mut out = String::new(heap);
-    push_report(heap, &mut out, links.get())?;
+    push_report(heap, &mut out, told.get())?;
     Ok(Text::new(out))
 }

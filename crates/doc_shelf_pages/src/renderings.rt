@@ -1,9 +1,9 @@
 //! Renderings that are held under a path and a stamp.
 
-ghost use Rattle.std.specs.Prelude.{◌≡◌, None, IfOk, OnOk, OnErr, map as mapped, option_copied};
+ghost use Rattle.std.specs.Prelude.{◌≡◌, None, false, IfOk, OnOk, OnErr, map as mapped, option_copied};
 ghost use Rattle.std.specs.FinMap as map;
 ghost use Rattle.doc_shelf_pages.specs.Held.{by_path};
-ghost use Rattle.doc_shelf_pages.specs.RenderingSteps.{flagged, lines_at, texts_of, with_copy};
+ghost use Rattle.doc_shelf_pages.specs.RenderingSteps.{HasNoImages, flagged, lines_at, texts_of, with_copy};
 
 use crate::lined::{Lined, flagged_lines};
 use doc_index::index::Index;
@@ -21,6 +21,8 @@ use std::marker::Model;
 pub struct Renderings {
     heap: Heap,
     pages: Index<Lined>,
+    /// Whether one with images was held ever.
+    imaged: bool,
 }
 
 impl Model for Renderings {
@@ -37,9 +39,9 @@ impl Model for Renderings {
 
     ghost view = { λ r. renderings_in r.pages };
 
-    ghost use Rattle.doc_shelf_pages.specs.RenderingSteps.{AreLined};
+    ghost use Rattle.doc_shelf_pages.specs.RenderingSteps.{AreImaged, AreLined};
 
-    ghost invariant = { λ r. AreLined r.pages };
+    ghost invariant = { λ r. AreLined r.pages × AreImaged r.imaged r.pages };
 }
 
 impl Renderings {
@@ -49,6 +51,7 @@ impl Renderings {
         Renderings {
             heap,
             pages: Index::new(heap),
+            imaged: false,
         }
     }
 
@@ -59,6 +62,13 @@ impl Renderings {
             return None;
         };
         Some(&lined.page)
+    }
+
+    /// Whether a rendering may have images. It answers so too where one had and has gone.
+    pub fn may_have_images(&self) -> bool
+        ensures { result ≡ false → HasNoImages self.now }
+    {
+        self.imaged
     }
 
     /// The lines that contents have of the pages whose flags are set, where each page has one, in the order of the paths.
@@ -87,8 +97,10 @@ impl Renderings {
             ≡ map.insert self.old (path.now, stamp) page) }
         ensures err { OnErr result (self.new ≡ self.old) }
     {
+        let bare = page.images().is_empty();
         let lined = Lined::new(self.heap, path, page)?;
         let keys = no_keys(self.heap);
+        self.imaged = self.imaged | !bare;
         self.pages.add(path, stamp, lined, &keys)
     }
 

@@ -13,31 +13,37 @@ use Rattle.std.proofs.lemmas.List.{take-map}
 use Rattle.std.proofs.lemmas.List.Sums.{sum_by-cons}
 use Rattle.std.proofs.lemmas.Simd.{map-map}
 use Rattle.doc_links.proofs.SourceSteps.{with_target, without_target}
-use Rattle.doc_links.specs.IndexSteps.{goes_to, sources_of}
-use Rattle.doc_links_pages.specs.Links.{backlinks, page_at as page_with_links}
+use Rattle.doc_links.specs.IndexSteps.{goes_to, linked_at, sources_of}
+use Rattle.doc_index_tables.specs.Maps.{PairMap}
+use Rattle.doc_links_pages.specs.Links.{backlinks, broken_with, page_at as page_with_links}
 use Rattle.doc_links_pages.specs.Names.{writes}
+use Rattle.doc_links_pages.specs.declared.answers.Broken.{Broken}
 use Rattle.doc_links_pages.specs.declared.page_links.PageLinks.{PageLinks}
 use Rattle.doc_page_parts.proofs.Texts.{bytes_eq_itself, bytes_eq_true}
 use Rattle.doc_page_parts.specs.Sights.{leads_to_itself}
 use Rattle.doc_page_parts.specs.declared.rendered.Rendered.{Rendered}
 use Rattle.doc_people.specs.Lists.{sources_from}
 use Rattle.doc_people.specs.Navigation.{is_before}
-use Rattle.doc_people.specs.Sources.{linked_pages}
+use Rattle.doc_media.specs.Media.{Beside}
+use Rattle.doc_media_links.specs.MediaLinks.{broken_beside}
+use Rattle.doc_people.specs.Sources.{broken_links, linked_pages}
 use Rattle.doc_resolve.specs.declared.link_kind.LinkKind.{LinkKind}
 use Rattle.doc_resolve.specs.declared.link_kind.LinkKind.TheVariants.{External, Page as page_link, Nowhere}
 use Rattle.doc_links_seen.specs.SeenSteps.{IsInOrder}
 use Rattle.doc_rows.specs.Looks.{from_text}
 use Rattle.doc_rows.specs.Rows.{paths_in}
 use Rattle.doc_rows_folders.proofs.ListLaws.{nothing_before}
+use Rattle.doc_shelf_pages.proofs.ImageSteps.{seen_told}
+use Rattle.doc_shelf_pages.specs.Images.{images_behind}
 use Rattle.doc_shelf_pages.proofs.KnownLaws.{names_of_targets}
 use Rattle.doc_shelf_pages.specs.KeptPages.{Kept}
 use Rattle.doc_shelf_pages.specs.Shelves.{IsKept}
 use Rattle.doc_shelf_pages.specs.ViewLaws.{seen_in}
 use Rattle.doc_shelf_pages.specs.Views.{Renders, links_in}
-use Rattle.doc_shelf_views.proofs.PlaceSteps.{Stands, all_first, all_some, counted_are, linked_are, links_at, view_stands, with_count}
+use Rattle.doc_shelf_views.proofs.PlaceSteps.{Stands, all_first, all_some, counted_are, linked_are, view_stands, with_count}
 use Rattle.doc_shelf_views.proofs.SourceSteps.{filter-map}
 use Rattle.doc_shelf_views.specs.Linking.{linking}
-use Rattle.doc_shelf_views.specs.Sources.{counted_at, linked_at, others_writing, stamped_at, writes_one}
+use Rattle.doc_shelf_views.specs.Sources.{counted_at, others_writing, stamped_at, writes_one}
 use Rattle.doc_store.specs.Names.{AreNames, names_of}
 use Rattle.doc_store.specs.Store.{StoreState, IsStore, is_goal}
 use Rattle.doc_store_readers.proofs.FilterSteps.{keys_in_order}
@@ -265,37 +271,47 @@ module _ (render : Renders) (store : StoreState) (kept : Kept) (reader : Reader)
 
 -- ---- the pages of a view with their links
 
-keys_same : {X Y : Type 0} (f : List ℕ × X → Y) (es : List (List ℕ × X)) → keys_of (mapped (λ e. (e.0, f e)) es) ≡ keys_of es
-keys_same f [] = refl
-keys_same f (e ∷ es) = ap (λ ks. e.0 ∷ ks) (keys_same f es)
-
 all_from_start : (texts : List (List ℕ)) → from_text [] texts ≡ texts
 all_from_start [] = refl
 all_from_start (text ∷ texts) =
     ap (λ b. cond (not b) (text ∷ from_text [] texts) (from_text [] texts)) (nothing_before text)
     ∙ ap (λ rest. text ∷ rest) (all_from_start texts)
 
-module _ (render : Renders) (store : StoreState) (kept : Kept) (reader : Reader) (is : IsStore store) (k : IsKept render store kept)
-    (texts : List (List ℕ)) (places : List (List ℕ × ℕ)) (pages : List (List ℕ × PageLinks))
-    (found : texts ≡ from_text [] (paths_in (seen_in store reader))) (at : places ≡ flat_map (stamped_at store) texts)
-    (kept_there : pages ≡ flat_map (linked_at kept.links) places) where
-  each_linked : pages ≡ mapped (λ page. (page.0, links_at store render kept is k page)) (seen_in store reader).pages
-  each_linked =
-      kept_there
-      ∙ ap (flat_map (linked_at kept.links)) (at ∙ ap (flat_map (stamped_at store)) (found
-      ∙ all_from_start (paths_in (seen_in store reader))))
-      ∙ linked_are store render kept is k (seen_in store reader).pages (view_stands store reader)
+-- at the places of the pages of a view stand all pages of it
+pub pages_are : (render : Renders) (store : StoreState) (kept : Kept) (reader : Reader) (is : IsStore store)
+    (k : IsKept render store kept) (texts : List (List ℕ)) (places : List (List ℕ × ℕ))
+    → texts ≡ from_text [] (paths_in (seen_in store reader)) → places ≡ flat_map (stamped_at store) texts
+    → (index : PairMap PageLinks) → index ≡ kept.links
+    → flat_map (linked_at index) places ≡ linked_pages render (seen_in store reader)
+pages_are render store kept reader is k texts places found at index same =
+    ap (λ m. flat_map (linked_at m) places) same
+    ∙ ap (flat_map (linked_at kept.links)) (at ∙ ap (flat_map (stamped_at store)) (found
+    ∙ all_from_start (paths_in (seen_in store reader))))
+    ∙ linked_are store render kept is k (seen_in store reader).pages (view_stands store reader)
+    ∙ sym (map-map (λ (p : List ℕ × Rendered). (p.0, links_in p.0 p.1)) (λ (p : List ℕ × Page). (p.0, render p.1.text))
+    (seen_in store reader).pages)
 
-  -- they are all pages of the view
-  pub pages_are : pages ≡ linked_pages render (seen_in store reader)
-  pages_are =
-      each_linked
-      ∙ sym (map-map (λ (p : List ℕ × Rendered). (p.0, links_in p.0 p.1)) (λ (p : List ℕ × Page). (p.0, render p.1.text))
-      (seen_in store reader).pages)
+keys_same : {X Y : Type 0} (f : List ℕ × X → Y) (es : List (List ℕ × X)) → keys_of (mapped (λ e. (e.0, f e)) es) ≡ keys_of es
+keys_same f [] = refl
+keys_same f (e ∷ es) = ap (λ ks. e.0 ∷ ks) (keys_same f es)
 
+module _ (render : Renders) (store : StoreState) (reader : Reader) where
   -- they stand in order
-  pub pages_in_order : IsInOrder pages
-  pages_in_order =
+  pub pages_in_order : (pages : List (List ℕ × PageLinks)) → pages ≡ linked_pages render (seen_in store reader) → IsInOrder pages
+  pages_in_order pages are =
       subst (IsStrictlySortedBy (slice_cmp nat_cmp))
-      (sym (ap keys_of each_linked ∙ keys_same (links_at store render kept is k) (seen_in store reader).pages))
+      (sym (ap keys_of are
+      ∙ keys_same (λ (p : List ℕ × Rendered). links_in p.0 p.1) (mapped (λ (p : List ℕ × Page). (p.0, render p.1.text))
+      (seen_in store reader).pages)
+      ∙ keys_same (λ (p : List ℕ × Page). render p.1.text) (seen_in store reader).pages))
       (keys_in_order (slice_cmp nat_cmp) (seen_in store reader).pages (map.entries_sorted (visible_to store.site (Some reader)).pages))
+
+  -- what is told of them is told of the view
+  pub broken_are : (media : Beside) (sight : View) → sight ≡ seen_in store reader → (pages : List (List ℕ × PageLinks))
+      → pages ≡ linked_pages render (seen_in store reader) → (links told : List Broken)
+      → links ≡ broken_with (images_behind render store media) (goal_in sight) pages → told ≡ broken_beside media links
+      → told ≡ broken_links render (seen_in store reader) media
+  broken_are media sight sees pages are links told found unbroken =
+      unbroken
+      ∙ ap (broken_beside media) (found ∙ (λ i. broken_with (images_behind render store media) (goal_in (sees i)) (are i)))
+      ∙ seen_told render store reader media

@@ -12,7 +12,7 @@ use Rattle.std.specs.declared.cmp.Ordering.TheVariants.{Less}
 use Rattle.std.proofs.lemmas.Bool.{true≢false}
 use Rattle.std.proofs.lemmas.Cmp.{nat_cmp_total, tied_itself}
 use Rattle.std.proofs.lemmas.Grind.{flat_map-append}
-use Rattle.doc_links.specs.IndexSteps.{links_to}
+use Rattle.doc_links.specs.IndexSteps.{linked_at, links_to, ones}
 use Rattle.doc_links_pages.specs.declared.page_links.PageLinks.{PageLinks}
 use Rattle.doc_rows.proofs.LookLaws.{not_itself}
 use Rattle.doc_rows.specs.Looks.{is_before}
@@ -21,7 +21,7 @@ use Rattle.doc_shelf_pages.specs.KeptPages.{Kept}
 use Rattle.doc_shelf_pages.specs.Shelves.{IsKept}
 use Rattle.doc_shelf_pages.specs.ViewLaws.{seen_in}
 use Rattle.doc_shelf_pages.specs.Views.{Renders, links_in}
-use Rattle.doc_shelf_views.specs.Sources.{counted_at, linked_at, ones, stamped_at, stamped_by}
+use Rattle.doc_shelf_views.specs.Sources.{counted_at, stamped_at, stamped_by}
 use Rattle.doc_store.specs.Store.{StoreState, IsStore}
 use Rattle.doc_store_readers.proofs.FilterSteps.{keys_in_order}
 use Rattle.doc_store_readers.proofs.KeySteps.{same_from, same_itself, same_key}

@@ -1,6 +1,6 @@
 -- Which pages of a view write one of a page's names, and what is kept of pages under their paths and stamps. All of this is this
 -- project's choice.
-use Rattle.std.specs.Prelude.{ℕ, List, [], ◌∷◌, filter, map as mapped, Bool, not, bytes_eq, Option, Some, None, option_map}
+use Rattle.std.specs.Prelude.{ℕ, List, [], ◌∷◌, filter, map as mapped, Bool, not, bytes_eq, Option, Some, None}
 use Rattle.std.specs.FinMap as map
 use Rattle.std.specs.List.{list_any}
 use Rattle.doc_index_tables.specs.Maps.{PairMap}
@@ -36,15 +36,6 @@ stamped_by path (Some page) (Some stamp) = (path, stamp) ∷ []
 
 abbrev pub stamped_at : StoreState → List ℕ → List (List ℕ × ℕ)
 stamped_at store path = stamped_by path (map.get store.site.pages path) (map.get store.stamps path)
-
--- what there is
-abbrev pub ones : {X : Type 0} → Option X → List X
-ones None = []
-ones (Some x) = x ∷ []
-
--- a path with what is kept of the links of its page, where something is
-abbrev pub linked_at : PairMap PageLinks → List ℕ × ℕ → List (List ℕ × PageLinks)
-linked_at index place = ones (option_map (λ page. (place.0, page)) (map.get index place))
 
 -- a path with the number of the links of its page that lead to a target
 abbrev pub counted_at : (List ℕ → Option (List ℕ)) → List ℕ → PairMap PageLinks → List ℕ × ℕ → List ℕ × ℕ

@@ -1,6 +1,7 @@
 //! Links, as a reader sees them: which pages link to one, and which links lead nowhere.
 
-ghost use Rattle.std.specs.Prelude.{◌≡◌, not, IfOk, filter, take};
+ghost use Rattle.std.specs.Prelude.{◌≡◌, not, IfOk, Some, filter, take};
+ghost use Rattle.doc_media.specs.Media.{beside_of};
 ghost use Rattle.doc_people.specs.Lists.{sources_from};
 ghost use Rattle.doc_people.specs.Navigation.{is_before};
 ghost use Rattle.doc_people.specs.Sources.{broken_links};
@@ -13,9 +14,10 @@ ghost use Rattle.doc_shelf_views.specs.Linking.{linking};
 ghost use Rattle.doc_store.specs.Store.{IsStore};
 
 use crate::sources::{Target, others_from};
-use crate::stamped::{counted, linked, stamped};
+use crate::stamped::{counted, stamped};
 use doc_links_pages::answers::Broken;
-use doc_links_seen::report::broken_in;
+use doc_media::media::Media;
+use doc_media_links::unbroken;
 use doc_page_parts::failure::Memory;
 use doc_page_parts::heap::{Heap, Vec};
 use doc_page_parts::list::List;
@@ -23,6 +25,7 @@ use doc_page_parts::path::Path;
 use doc_rows::rows::Rows;
 use doc_rows_links::link_rows::LinkRows;
 use doc_shelf_pages::KeptPages;
+use doc_shelf_pages::images::ImageTeller;
 use doc_shelf_pages::visible::visible_page;
 use doc_store::reader::Reader;
 use doc_store::store::Store;
@@ -60,25 +63,36 @@ pub fn sources_from(
     Ok(List::new(sources))
 }
 
-/// The broken links of the pages that the reader sees, from a text on, page by page.
+/// The broken links of the pages that the reader sees, beside the media that they see, and behind those of each page its images that show
+/// nothing, from a text on, page by page.
 pub fn broken_from(
     heap: Heap,
     store: &Store,
     kept: &KeptPages,
     rows: &Rows,
     reader: &Reader,
+    media: &Option<Media>,
     from: &str,
 ) -> Result<List<Broken>, Memory>
     requires kept { (render : Renders) × IsStore store.now × IsKept render store.now kept.now }
     ensures { (render : Renders) → IsKept render store.now kept.now
         → IsRows store.now.site.pages rows.now
         → IfOk result (λ found. found ≡ filter (λ link. not (is_before link.source from.now))
-        (broken_links render (seen_in store.now reader.now))) }
+        (broken_links render (seen_in store.now reader.now)
+        (beside_of media.now (Some reader.now)))) }
 {
     let texts = rows.paths_seen(heap, reader, "")?;
     let places = stamped(heap, store, texts.get())?;
-    let pages = linked(heap, kept.links(), &places)?;
-    let mut links = broken_in(heap, &pages, &store.sight(reader))?.into_inner();
+    let images = ImageTeller {
+        heap,
+        kept,
+        media,
+        reader,
+    };
+    let broken = kept
+        .links()
+        .broken_at(&places, &store.sight(reader), &images)?;
+    let mut links = unbroken(heap, broken, media, reader)?.into_inner();
     links.retain(|link| is_from(&link.source, from));
     Ok(List::new(links))
 }

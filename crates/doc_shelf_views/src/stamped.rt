@@ -1,12 +1,11 @@
-//! Pages under their paths and stamps, and what is kept of their links.
+//! Pages under their paths and stamps, and how many of their links lead to one.
 
-ghost use Rattle.std.specs.Prelude.{◌≡◌, ◌++◌, IfOk, OnOk, map as mapped, option_map};
+ghost use Rattle.std.specs.Prelude.{◌≡◌, ◌++◌, IfOk, OnOk, map as mapped};
 ghost use Rattle.std.specs.List.{flat_map};
-ghost use Rattle.doc_links_seen.specs.SeenPages.{seen_page, seen_pages};
-ghost use Rattle.doc_shelf_views.specs.Sources.{counted_at, linked_at, ones, stamped_at};
+ghost use Rattle.doc_shelf_views.specs.Sources.{counted_at, stamped_at};
 ghost use Rattle.doc_store_readers.specs.Sites.{goal_in};
 
-use doc_links::{LinkIndex, SeenPage};
+use doc_links::LinkIndex;
 use doc_page_parts::failure::Memory;
 use doc_page_parts::heap::{Heap, Vec};
 use doc_page_parts::path::Path;
@@ -42,34 +41,6 @@ fn push_stamped(
     };
     let stamp = page.stamp();
     places.push((path, stamp))?;
-    Ok(())
-}
-
-/// The pages that are kept at these places.
-pub(crate) fn linked<'a>(
-    heap: Heap,
-    index: &'a LinkIndex,
-    places: &'a [(Path, u64)],
-) -> Result<Vec<SeenPage<'a>>, Memory>
-    ensures { IfOk result (λ pages.
-        seen_pages pages.items ≡ flat_map (linked_at index.now) places.now) }
-{
-    let mut pages = Vec::new(heap);
-    for place in places {
-        push_linked(&mut pages, index.page(&place.0, place.1))?;
-    }
-    Ok(pages)
-}
-
-/// Adds a page, where there is one.
-fn push_linked<'a>(pages: &mut Vec<SeenPage<'a>>, page: Option<SeenPage<'a>>) -> Result<(), Memory>
-    ensures { OnOk result (seen_pages pages.new.items
-        ≡ seen_pages pages.old.items ++ ones (option_map seen_page page.entry)) }
-{
-    let Some(page) = page else {
-        return Ok(());
-    };
-    pages.push(page)?;
     Ok(())
 }
 

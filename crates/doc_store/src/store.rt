@@ -36,6 +36,9 @@ pub enum Put {
 /// Why an edit was refused.
 #[derive(Clone, Copy, Debug, PartialEq, Eq, Error)]
 pub enum EditError {
+    /// A medium stands under the path, which no store asks: a hub does, before its store.
+    #[error("a medium stands there already")]
+    Taken,
     /// The text has more than 1,048,576 bytes.
     #[error("the text is too long")]
     TooLong,

@@ -34,7 +34,7 @@ unfolding ucd_category ucd_case default_case_fold chars encode_utf8
 replacement = refl
 
 -- a word ends with its text
-two_texts : page_words (record { pieces = []; headings = []; texts = codes "ki" ∷ codes "wi" ∷ [] }) ≡ codes "ki" ∷ codes "wi" ∷ []
+two_texts : page_words (record { pieces = []; headings = []; texts = codes "ki" ∷ codes "wi" ∷ []; images = [] }) ≡ codes "ki" ∷ codes "wi" ∷ []
 unfolding ucd_category ucd_case default_case_fold chars encode_utf8
 two_texts = refl
 

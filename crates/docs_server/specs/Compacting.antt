@@ -7,10 +7,10 @@ use Rattle.doc_server_streams.specs.declared.fault.Fault.{Fault}
 use Rattle.doc_server_restore.specs.Restores.{made}
 use Rattle.doc_server.specs.Sites.{text_of, texts_behind}
 
--- the store after the put of a page, where it has a text and the put is accepted
+-- the store after the put of a page beside no media, where it has a text and the put is accepted
 abbrev pub stored_page : StoreState → PageRow → Option (List ℕ) → Option StoreState
 stored_page store page None = None
-stored_page store page (Some text) = made store (set_page page.path (record { groups = page.groups; text = text }))
+stored_page store page (Some text) = made None store (set_page page.path (record { groups = page.groups; text = text }))
 
 -- the same of pages in their order, where each has a text and each put is accepted
 abbrev pub stored_pages : StoreState → List PageRow → List (List ℕ) → Option StoreState

@@ -1,12 +1,14 @@
 //! The site of a server that runs, with the pages of its folders.
 
 ghost use Rattle.std.specs.Prelude.{◌≡◌, ◌++◌, IfOk, OnOk, None};
-ghost use Rattle.doc_server_config.specs.Overlaps.{first_overlap, paths_of};
+ghost use Rattle.doc_server_config.specs.Overlaps.{first_overlap, media_paths, paths_of};
 ghost use Rattle.docs_server.specs.Listening.{HasOthers, HasOwnPaths, IsOwn};
 
 use crate::files::{Pages, Site, config_of, document_of, read_file, site_of};
 use crate::folder_rows::{FolderRows, read_folders};
+use crate::gathered_media::gathered_media;
 use crate::listen_fault::ListenFault;
+use doc_media::media::Media;
 use doc_page_parts::failure::Memory;
 use doc_page_parts::heap::{Heap, Vec};
 use doc_page_parts::list::List;
@@ -17,8 +19,9 @@ use doc_server_config::browsing::BrowseError;
 use doc_server_config::config::SiteConfig;
 use doc_server_config::document::Document;
 use doc_server_config::folder::Folder;
+use doc_server_config::folder_pages::FolderMedium;
 use doc_server_config::listening::{Listening, ListeningError};
-use doc_server_config::overlap::first_overlap;
+use doc_server_config::overlap::{first_medium_overlap, first_overlap};
 use doc_server_config::page_row::PageRow;
 use doc_server_config::readme::{Move, free_moves};
 use doc_server_streams::fault::Fault;
@@ -28,6 +31,8 @@ use std::rt::Files;
 pub struct Bounded {
     pub site: Site,
     pub bounds: Bounds,
+    /// The media of its folders, where one of them asks for media.
+    pub media: Option<Media>,
     /// The moves that are made on its pages, once they stand.
     pub moves: List<Move>,
     /// The bad files that its folders pass over.
@@ -37,6 +42,7 @@ pub struct Bounded {
 /// Pages with those of folders behind them.
 struct Gathered {
     pages: Pages,
+    media: Option<Media>,
     /// The moves that are made on them.
     moves: List<Move>,
     /// The bad files that the folders pass over.
@@ -67,12 +73,14 @@ pub fn read_bounded<R: AllocGlobal + Files + Clone + Drop>(
     let Site { pages, entities } = site;
     let Gathered {
         pages,
+        media,
         moves,
         passed,
-    } = with_folders(rt, heap, pages, folders.get())?;
+    } = with_folders(rt, heap, pages, folders.get(), bounds.media_bytes)?;
     Ok(Bounded {
         site: Site { pages, entities },
         bounds,
+        media,
         moves,
         passed,
     })
@@ -86,12 +94,12 @@ pub fn read_all_folders<R: AllocGlobal + Files + Clone + Drop>(
     let heap = rt.alloc();
     let Opened {
         site,
-        bounds: _,
+        bounds,
         folders,
     } = open(rt, heap, name)?;
     let Site { pages, entities: _ } = site;
     let rows = pages.config.pages.get();
-    read_folders(rt, heap, rows, folders.get(), true)
+    read_folders(rt, heap, rows, folders.get(), bounds.media_bytes, true)
 }
 
 /// The configuration of this name, with the files that it names.
@@ -128,12 +136,13 @@ fn browse_of(heap: Heap, document: &Document) -> Result<Option<Browse>, ListenFa
     }
 }
 
-/// The pages with those of folders behind them.
+/// The pages with those of folders behind them, and the folders' media.
 fn with_folders<R: AllocGlobal + Files + Clone + Drop>(
     rt: &R,
     heap: Heap,
     pages: Pages,
     folders: &[Folder],
+    media_bytes: usize,
 ) -> Result<Gathered, ListenFault>
     ensures { IfOk result
         (λ all. HasOthers pages.config.pages all.pages.config.pages) }
@@ -149,13 +158,16 @@ fn with_folders<R: AllocGlobal + Files + Clone + Drop>(
         browse,
     } = config;
     let rows = pages.into_inner();
-    let found = read_folders(rt, heap, &rows, folders, false)?;
+    let found = read_folders(rt, heap, &rows, folders, media_bytes, false)?;
     let FolderRows {
         rows: others,
+        media,
         moves,
         bad,
     } = found;
     check_overlap(heap, &rows, &others)?;
+    check_media(heap, &rows, &media)?;
+    let media = gathered_media(heap, folders, media)?;
     let pages = joined(rows, others)?;
     let moves = free_moves(heap, pages.get(), moves)?;
     Ok(Gathered {
@@ -171,6 +183,7 @@ fn with_folders<R: AllocGlobal + Files + Clone + Drop>(
             },
             texts,
         },
+        media,
         moves: List::new(moves),
         passed: List::new(bad),
     })
@@ -181,6 +194,16 @@ fn check_overlap(heap: Heap, rows: &[PageRow], others: &[PageRow]) -> Result<(),
     ensures { OnOk result (first_overlap (paths_of rows.now) (paths_of others.now) ≡ None) }
 {
     match first_overlap(heap, rows, others)? {
+        Some(path) => Err(ListenFault::Twice(path.copy(heap)?)),
+        None => Ok(()),
+    }
+}
+
+/// Refuses media that have a path which another medium or a row has.
+fn check_media(heap: Heap, rows: &[PageRow], media: &[FolderMedium]) -> Result<(), ListenFault>
+    ensures { OnOk result (first_overlap (paths_of rows.now) (media_paths media.now) ≡ None) }
+{
+    match first_medium_overlap(heap, rows, media)? {
         Some(path) => Err(ListenFault::Twice(path.copy(heap)?)),
         None => Ok(()),
     }

@@ -51,6 +51,7 @@ fn pages_of<P: AllocGlobal + Clone + Drop + Eprint + Files>(
     let Bounded {
         site,
         bounds: _,
+        media: _,
         moves,
         passed,
     } = read_bounded(rt, config)?;

@@ -1,4 +1,4 @@
-//! The pages of a configuration's folders.
+//! The pages and the media of a configuration's folders.
 
 ghost use Rattle.std.specs.Prelude.{◌≡◌};
 ghost use Rattle.docs_server.specs.Listening.{row_of};
@@ -10,7 +10,7 @@ use doc_page_parts::list::List;
 use doc_page_parts::path::Path;
 use doc_server_config::bad_file::BadFile;
 use doc_server_config::folder::Folder;
-use doc_server_config::folder_pages::{FolderFile, FolderPage, read_folder};
+use doc_server_config::folder_pages::{FolderFile, FolderMedium, FolderPage, read_folder};
 use doc_server_config::folder_rules::FolderRules;
 use doc_server_config::page_row::{PageRow, Source};
 use doc_server_config::readme::{Move, index_move};
@@ -21,23 +21,26 @@ use std::rt::Files;
 #[derive(Drop)]
 pub struct FolderRows {
     pub rows: Vec<PageRow>,
+    pub media: Vec<FolderMedium>,
     /// The moves of their READMEs, where the folders ask for that.
     pub moves: Vec<Move>,
     pub bad: Vec<BadFile>,
 }
 
-/// The pages of folders, beside those of the configuration's rows. `Bad` is the first bad file of a folder that doesn't pass over such,
-/// unless all are asked for.
+/// The pages and the media of folders, beside the pages of the configuration's rows. The media have so many bytes together at most.
+/// `Bad` is the first bad file of a folder that doesn't pass over such, unless all are asked for.
 pub fn read_folders<R: AllocGlobal + Files + Clone + Drop>(
     rt: &R,
     heap: Heap,
     rows: &[PageRow],
     folders: &[Folder],
+    media_bytes: usize,
     all: bool,
 ) -> Result<FolderRows, ListenFault> {
-    let mut taken = Taken::beside(heap, rows)?;
+    let mut taken = Taken::beside(heap, rows, media_bytes)?;
     let mut found = FolderRows {
         rows: Vec::new(heap),
+        media: Vec::new(heap),
         moves: Vec::new(heap),
         bad: Vec::new(heap),
     };
@@ -75,6 +78,7 @@ fn add_file(
 ) -> Result<(), ListenFault> {
     match file {
         FolderFile::Page(page) => Ok(add_page(heap, found, page, rules.readme)?),
+        FolderFile::Medium(medium) => Ok(found.media.push(medium).map_err(Memory::from)?),
         FolderFile::Bad(bad) if rules.skips => Ok(found.bad.push(bad).map_err(Memory::from)?),
         FolderFile::Bad(bad) => Err(ListenFault::Bad(bad)),
     }

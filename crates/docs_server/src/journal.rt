@@ -48,7 +48,7 @@ pub fn open_journal<D: Device + Drop, E: Edits, K: KeepTorn>(
     ensures restored { IfOk result (λ journal. (texts : List (List ℕ))
         × (AreBehind (D.stale device) (journal.end - last_size texts)
         → IsOpen D.seen D.may_leave D.failed D.stale journal texts)
-        × (restored (E.store site.old) texts ≡ Ok (E.store site.new))) }
+        × (restored (E.media site.old) (E.store site.old) texts ≡ Ok (E.store site.new))) }
     ensures alike { IfOk result (λ journal. E.alike site.old site.new) }
 {
     match Journal::open(heap, device, MOST_BYTES, keeper) {
@@ -69,7 +69,7 @@ pub fn restore_journal<D: Device + Drop, E: Edits, K: KeepTorn>(
 ) -> Result<D, ListenFault>
     requires usable { D.failed device ≡ false }
     ensures { OnOk result ((texts : List (List ℕ))
-        × (restored (E.store site.old) texts ≡ Ok (E.store site.new))) }
+        × (restored (E.media site.old) (E.store site.old) texts ≡ Ok (E.store site.new))) }
 {
     match Journal::open(heap, device, MOST_BYTES, keeper) {
         Ok(Opened { journal, texts }) => {
@@ -94,7 +94,7 @@ fn restore_first<D: Device + Drop, E: Edits>(
 ) -> Result<D, ListenFault>
     requires usable { D.failed device ≡ false }
     ensures { OnOk result ((texts : List (List ℕ))
-        × (restored (E.store site.old) texts ≡ Ok (E.store site.new))) }
+        × (restored (E.media site.old) (E.store site.old) texts ≡ Ok (E.store site.new))) }
 {
     let mut device = device;
     let bytes = match load(&mut device, heap, MOST_BYTES) {
@@ -112,7 +112,7 @@ fn restore_first<D: Device + Drop, E: Edits>(
 
 /// Makes the edits of records on a site, in their order.
 fn make_edits<E: Edits>(heap: Heap, records: &List<Bytes>, site: &mut E) -> Result<(), ListenFault>
-    ensures { OnOk result (restored (E.store site.old) records.now ≡ Ok (E.store site.new)) }
+    ensures { OnOk result (restored (E.media site.old) (E.store site.old) records.now ≡ Ok (E.store site.new)) }
 {
     restore(heap, site, records.get())?;
     Ok(())

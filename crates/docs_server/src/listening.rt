@@ -19,9 +19,10 @@ use crate::told_folders::tell_passed;
 use crate::torn::TornFile;
 use doc_html::CommonMark;
 use doc_hub::hub::Hub;
+use doc_media::media::Media;
 use doc_page::renderer::Renderer;
 use doc_page_parts::heap::Heap;
-use doc_server::site::site_hub;
+use doc_server::site::site_hub_beside;
 use doc_server_config::bounds::Bounds;
 use doc_server_config::readme::Move;
 use doc_server_journal::device::Device;
@@ -62,6 +63,7 @@ pub fn run_listen<
             Bounded {
                 site,
                 bounds,
+                media,
                 moves,
                 passed,
             },
@@ -75,7 +77,7 @@ pub fn run_listen<
             );
             status_of(
                 rt,
-                listen_with(rt, renderer, pages, moves.get(), bounds, command),
+                listen_with(rt, renderer, pages, media, moves.get(), bounds, command),
             )
         }
         Err(fault) => status_of(rt, Err(fault)),
@@ -91,12 +93,14 @@ fn listen_with<
     rt: &P,
     renderer: R,
     pages: Pages,
+    media: Option<Media>,
     moves: &[Move],
     bounds: Bounds,
     command: &Listen<'_>,
 ) -> Result<u8, ListenFault> {
     let heap = rt.alloc();
-    let mut hub = site_hub(heap, renderer, pages.config, pages.texts.get())?;
+    let Pages { config, texts } = pages;
+    let mut hub = site_hub_beside(heap, renderer, config, texts.get(), media)?;
     make_moves(&mut hub, moves)?;
     listen_on(rt, heap, &mut hub, &bounds, command)
 }

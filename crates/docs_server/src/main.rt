@@ -8,6 +8,7 @@ mod commands;
 mod compacting;
 mod files;
 mod folder_rows;
+mod gathered_media;
 mod held;
 mod journal;
 mod listen_fault;

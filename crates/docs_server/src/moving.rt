@@ -13,8 +13,8 @@ use doc_server_streams::fault::Fault;
 
 /// Makes moves on a site, in their order. `Refused` says that one of them isn't accepted.
 pub fn make_moves<E: Edits>(site: &mut E, moves: &[Move]) -> Result<(), Fault>
-    ensures made { OnOk result (all_made (E.store site.old) (edits_of_moves moves.now)
-        ≡ Some (E.store site.new)) }
+    ensures made { OnOk result
+        (all_made (E.media site.old) (E.store site.old) (edits_of_moves moves.now) ≡ Some (E.store site.new)) }
     ensures alike { OnOk result (E.alike site.old site.new) }
 {
     for one in moves {
@@ -25,8 +25,8 @@ pub fn make_moves<E: Edits>(site: &mut E, moves: &[Move]) -> Result<(), Fault>
 
 /// Makes a move.
 fn make_move<E: Edits>(site: &mut E, one: &Move) -> Result<(), Fault>
-    ensures made { OnOk result (made (E.store site.old) (move_page one.now.from one.now.to)
-        ≡ Some (E.store site.new)) }
+    ensures made { OnOk result (made (E.media site.old) (E.store site.old)
+        (move_page one.now.from one.now.to) ≡ Some (E.store site.new)) }
     ensures alike { OnOk result (E.alike site.old site.new) }
 {
     match site.make_move(&one.from, &one.to) {

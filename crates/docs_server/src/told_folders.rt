@@ -40,8 +40,9 @@ fn tell<O: Output>(heap: Heap, found: &FolderRows, output: &mut O) -> Result<(),
         tell_bad(heap, bad, output)?;
     }
     let pages = found.rows.len();
+    let media = found.media.len();
     let bad = found.bad.len();
-    let line = format!(in heap; "{pages} pages, 0 media, {bad} bad\n")?;
+    let line = format!(in heap; "{pages} pages, {media} media, {bad} bad\n")?;
     send(output, line.as_bytes())?;
     flush(output)
 }

@@ -41,6 +41,7 @@ impl Draft {
 
     fn into_page(self) -> Rendered {
         let Draft {
+            heap,
             pieces,
             headings,
             texts,
@@ -50,6 +51,7 @@ impl Draft {
             pieces: List::new(pieces),
             headings: List::new(headings),
             texts: List::new(texts),
+            images: List::new(Vec::new(heap)),
         }
     }
 

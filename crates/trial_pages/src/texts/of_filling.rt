@@ -70,5 +70,6 @@ fn page_of(heap: Heap, pieces: Vec<Piece>) -> Rendered {
         pieces: List::new(pieces),
         headings: List::new(Vec::new(heap)),
         texts: List::new(Vec::new(heap)),
+        images: List::new(Vec::new(heap)),
     }
 }

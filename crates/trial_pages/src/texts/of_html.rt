@@ -46,6 +46,7 @@ fn options_of(name: &str) -> Options {
         strikethrough: name == "strikethrough",
         tasks: name == "tasks",
         bare_links: name == "bare_links",
+        images: false,
     }
 }
 

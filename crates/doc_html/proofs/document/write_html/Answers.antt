@@ -10,8 +10,8 @@ pub returns : goal.returns
 returns g c = λ definitions blocks is flat.
     let held : HoldsHtml (g.K.Links.shown c.push_all.new.writer.links.now) (string_bytes c.push_all.new.writer.out)
     c.push_all.new.writer.fresh
-    (blocks_told c.args.entities.now definitions false blocks (begun (g.K.Links.shown c.args.links.now) None))
-    = c.in_ok-push_all.ensures definitions blocks (begun (g.K.Links.shown c.args.links.now) None) is flat c.in_ok-writer.ensures in
+    (blocks_told c.args.entities.now definitions false blocks (begun (g.K.Links.shown c.args.links.now) false None))
+    = c.in_ok-push_all.ensures definitions blocks (begun (g.K.Links.shown c.args.links.now) false None) is flat c.in_ok-writer.ensures in
     c.into_text.ensures
     ∙ html_told c.args.entities.now definitions blocks (g.K.Links.shown c.args.links.now)
     (g.K.Links.shown c.push_all.new.writer.links.now) _

@@ -2,7 +2,7 @@ use Rattle.std.proofs.Common.{arith, ap, subst, sym, ◌∙◌}
 use Rattle.doc_links_seen.specs.Numbered.{AreAllWhole, AreNamed}
 use Rattle.doc_links_seen.specs.declared.named.Named.{Named}
 use Rattle.doc_links_seen.specs.SeenPages.{seen_pages}
-use Rattle.doc_links_seen.specs.SeenSteps.{pages_at}
+use Rattle.doc_links_seen.specs.SeenSteps.{IsInOrder, pages_at}
 use Rattle.doc_links_seen.proofs.AnswerSteps.{all_told}
 use Rattle.doc_links_seen.proofs.WholeSteps.{all_whole}
 use Rattle.doc_links_seen.proofs.report.broken_numbered.Goals as goal
@@ -24,7 +24,8 @@ push_slot-requires-clause-whole g c =
     c.requires.order c.requires.seen c.in_ok-stands.ensures.stands))
 
 pub returns : goal.returns
-returns g c =
+returns g c = λ behind are.
     c.new.ensures
-    ∙ all_told (g.S.Sight.goals c.args.sight.now) c.args.index.now c.args.slots.now (seen_pages c.in_ok-pages.pages.items)
-    c.loop-slot.all.items c.loop-slot.slot-index (omega (arith, c.loop-slot-test.false)) c.in_ok-pages.ensures c.loop-slot.invariant.1
+    ∙ all_told behind (g.S.Sight.goals c.args.sight.now) c.args.index.now c.args.slots.now (seen_pages c.in_ok-pages.pages.items)
+    c.loop-slot.all.items c.loop-slot.slot-index (omega (arith, c.loop-slot-test.false)) c.in_ok-pages.ensures
+    (c.loop-slot.invariant.1 behind are (subst IsInOrder (sym c.in_ok-pages.ensures) c.requires.order))

@@ -7,6 +7,7 @@ use Rattle.doc_people_lists.proofs.broken.push_groups.Given as goal
 abbrev pub invariant-loop-shown : goal.invariant-loop-shown
 invariant-loop-shown g l = record {
   written : string_bytes l.out ≡ string_bytes l.fn.out
-      ++ flat_map (broken_group (g.V.Viewed.render l.view) l.frame.offers (g.V.Viewed.view l.view)) (take l._shown (by_source l.links));
+      ++ flat_map (broken_group (g.V.Viewed.render l.view) l.frame.offers (g.V.Viewed.view l.view) (g.V.Viewed.media l.view))
+      (take l._shown (by_source l.links));
   left : by_source l.rest ≡ drop l._shown (by_source l.links);
 }

@@ -10,7 +10,7 @@ pub returns : goal.returns
 returns g c =
     third_written c.push_pager.result (codes "<h1>Broken links</h1>\n<p>A page that you may not read counts as none.</p>\n")
     (table_or_note (g.V.Viewed.render c.args.view.now) c.args.frame.offers (g.V.Viewed.view c.args.view.now)
-    (note_from c.args.from.now (codes "No link is broken on the pages that you may read."))
+    (g.V.Viewed.media c.args.view.now) (note_from c.args.from.now (codes "No link is broken on the pages that you may read."))
     (take 50 (by_source c.args.links.now)))
     (pager (codes "/broken") c.args.from.now (option_map (λ group. group.0) (slice_get (by_source c.args.links.now) 50))) _ _ _ _
     c.in_ok-push_str.ensures.bytes c.in_ok-left.ensures.written

@@ -6,4 +6,4 @@ use Rattle.doc_people_lists.proofs.broken.push_rows.Given as goal
 -- the rows so far are written
 abbrev pub invariant-loop-link : goal.invariant-loop-link
 invariant-loop-link g l = string_bytes l.out ≡ string_bytes l.fn.out
-    ++ flat_map (broken_row l.frame.offers (g.V.Viewed.view l.view)) (take l.link-index l.links)
+    ++ flat_map (broken_row l.frame.offers (g.V.Viewed.view l.view) (g.V.Viewed.media l.view)) (take l.link-index l.links)

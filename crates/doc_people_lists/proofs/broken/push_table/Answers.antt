@@ -11,9 +11,10 @@ pub returns-clause-written : goal.returns-clause-written
 returns-clause-written g c =
     let render = g.V.Viewed.render c.args.view.now in
     let view = g.V.Viewed.view c.args.view.now in
+    let media = g.V.Viewed.media c.args.view.now in
     let some : length c.args.links.now ≢ 0 = grind (arith, common_steps) in
-    threefold broken_head (flat_map (broken_group render c.args.frame.offers view) (take 50 (by_source c.args.links.now)))
+    threefold broken_head (flat_map (broken_group render c.args.frame.offers view media) (take 50 (by_source c.args.links.now)))
     (codes "</table>\n") _ _ _ _
     c.in_ok-push_head.ensures c.in_ok-left.ensures.written c.in_ok-push_str.ensures.bytes
-    ∙ ap (λ t. string_bytes c.args.out.now ++ t) (sym (some_groups render c.args.frame.offers view
+    ∙ ap (λ t. string_bytes c.args.out.now ++ t) (sym (some_groups render c.args.frame.offers view media
     (note_from c.args.from.now (codes "No link is broken on the pages that you may read.")) c.args.links.now some))

@@ -15,7 +15,8 @@ returns g c =
     let view = g.V.Viewed.view c.args.view.now in
     let path = c.args.path.now in
     let headings = c.in-Some-2.headings.now in
-    page_made render c.args.frame.browse.now c.args.frame.offers view path c.in-Some.html headings c.get-3.result.now c.as_str.result.now
+    page_made render c.args.frame.browse.now c.args.frame.offers view (g.V.Viewed.media c.args.view.now) path c.in-Some.html headings
+    c.get-3.result.now c.as_str.result.now
     c.as_str-2.result.now c.in_ok-body.body
     (sym c.in-Some.is ∙ c.in_ok-html.ensures)
     (sym (ap option_copied c.in-Some-2.is) ∙ c.in_ok-headings.ensures

@@ -4,9 +4,11 @@ use Rattle.doc_server_restore.proofs.restore.make_all.Given as goal
 
 abbrev pub invariant-loop-event : goal.invariant-loop-event
 invariant-loop-event g l = record {
-  made : made_of (g.E.Edits.store l.fn.site) l.events ≡ made_of (g.E.Edits.store l.site) (drop l.event-index l.events);
-  line : line_refused 1 (g.E.Edits.store l.fn.site) l.events
-      ≡ line_refused (l.number + 1) (g.E.Edits.store l.site) (drop l.event-index l.events);
+  made : made_of (g.E.Edits.media l.fn.site) (g.E.Edits.store l.fn.site) l.events
+      ≡ made_of (g.E.Edits.media l.fn.site) (g.E.Edits.store l.site) (drop l.event-index l.events);
+  line : line_refused (g.E.Edits.media l.fn.site) 1 (g.E.Edits.store l.fn.site) l.events
+      ≡ line_refused (g.E.Edits.media l.fn.site) (l.number + 1) (g.E.Edits.store l.site) (drop l.event-index l.events);
+  media : g.E.Edits.media l.site ≡ g.E.Edits.media l.fn.site;
   number : l.number ≡ l.event-index;
   alike : g.E.Edits.alike l.fn.site l.site;
 }

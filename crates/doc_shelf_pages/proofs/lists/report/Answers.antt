@@ -1,7 +1,11 @@
 use Rattle.std.proofs.Common.{◌∙◌}
+use Rattle.std.specs.Prelude.{Some}
+use Rattle.doc_media.specs.Media.{beside_of}
 use Rattle.doc_shelf_pages.proofs.FlagSteps.{links_flagged}
+use Rattle.doc_shelf_pages.proofs.ImageSteps.{images_told}
 use Rattle.doc_shelf_pages.proofs.ListSteps.{is_once, made, report_is}
 use Rattle.doc_shelf_pages.proofs.lists.report.Goals as goal
+use Rattle.doc_shelf_pages.specs.Images.{images_behind}
 
 pub broken_flagged-requires : goal.broken_flagged-requires
 broken_flagged-requires c =
@@ -19,6 +23,11 @@ broken_flagged-requires c =
 
 pub returns : goal.returns
 returns c render k =
+    let store = c.args.store.now in
+    let kept = c.args.kept.now in
+    let media = beside_of c.args.media.now (Some c.args.reader.now) in
     made c.new.result _ _ _ c.new.ensures c.in_ok-push_report.ensures.ok c.new-out.ensures.bytes
-    ∙ report_is render c.args.store.now c.args.kept.now c.args.reader.now c.requires.kept.1 k c.sight.result c.sight.ensures
-    c.links.result.now c.links.ensures _ (c.get.ensures ∙ c.in_ok-links.ensures)
+    ∙ report_is render store kept c.args.reader.now c.requires.kept.1 k c.sight.result c.sight.ensures
+    c.links.result.now c.links.ensures media _ _
+    (c.in_ok-broken.ensures (images_behind render store media) (images_told render store kept k media c.links.result.now c.links.ensures))
+    (c.get.ensures ∙ c.in_ok-told.ensures)

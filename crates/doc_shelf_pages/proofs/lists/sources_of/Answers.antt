@@ -1,5 +1,4 @@
-use Rattle.std.proofs.Common.{ap, refl, ◌∙◌}
-use Rattle.doc_store_readers.specs.Groups.{texts_of}
+use Rattle.std.proofs.Common.{◌∙◌}
 use Rattle.doc_shelf_pages.proofs.FlagSteps.{links_flagged}
 use Rattle.doc_shelf_pages.proofs.ListSteps.{is_once, names_are, target_is}
 use Rattle.doc_shelf_pages.proofs.lists.sources_of.Goals as goal

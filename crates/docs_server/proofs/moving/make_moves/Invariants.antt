@@ -6,7 +6,8 @@ use Rattle.docs_server.proofs.moving.make_moves.Given as goal
 -- the moves so far are made
 abbrev pub invariant-loop-one : goal.invariant-loop-one
 invariant-loop-one g l = record {
-  made : all_made (g.E.Edits.store l.fn.site) (edits_of_moves l.moves)
-      ≡ all_made (g.E.Edits.store l.site) (edits_of_moves (drop l.one-index l.moves));
+  made : all_made (g.E.Edits.media l.fn.site) (g.E.Edits.store l.fn.site) (edits_of_moves l.moves)
+      ≡ all_made (g.E.Edits.media l.fn.site) (g.E.Edits.store l.site) (edits_of_moves (drop l.one-index l.moves));
+  media : g.E.Edits.media l.site ≡ g.E.Edits.media l.fn.site;
   alike : g.E.Edits.alike l.fn.site l.site;
 }

@@ -6,6 +6,6 @@ use Rattle.doc_html.proofs.page_writer.PageWriterWriter.link.Goals as goal
 
 pub returns : goal.returns
 returns c = λ p h.
-    holds_link _ _ _ _ _ c.args.self.now.fresh _ _ _ _ p (Link c.in_ok-spot.spot) (named c.args.target) h
+    holds_link _ _ _ _ _ c.args.self.now.fresh _ _ _ _ c.args.self.now.tells_images _ p (Link c.in_ok-spot.spot) (named c.args.target) h
     c.in_ok-cut.ensures.pieces c.in_ok-cut.ensures.html c.in_ok-push.ensures.items
     c.in_ok-spot.ensures refl

@@ -42,7 +42,8 @@ returns-in_ok-answer-in-Request-clause-world g c =
     let begins = subst (IsNext connection.unread) c.in-Request.is (c.in_ok-next_request.ensures.found connection (sym c.in-Some.ensures)) in
     let set = c.finish-in-Request.ensures.finished connection (sym (c.in-Some.ensures ∙ ap (λ m. map.get m c.args.id.0) (sym same)))
     ∙ ap (λ m. map.insert m c.args.id.0 (finished connection c.in-Request.used answer.closes)) same in
-    request_answered (g.R.Renderer.page hub.shelf.0) hub.takes_puts hub.readers hub.settings hub.given hub.connections c.finish-in-Request.new.self
+    request_answered (g.R.Renderer.page hub.shelf.0) hub.media hub.takes_puts hub.readers hub.settings hub.given hub.connections
+    c.finish-in-Request.new.self
     hub.shelf.1 c.answer.new.shelf.1 c.args.self.now.1 (λ i. (c.self.view_is i).1) c.args.id.0 connection c.in-Some.ensures
     c.if-connection.false c.in-Request.used c.in-Request.request begins answer
     c.in_ok-answer-in-Request.ensures.answer.0 c.in_ok-answer-in-Request.ensures.answer.1 set
@@ -53,7 +54,7 @@ returns-in_ok-answer-in-Request-clause-edit g c =
     let hub = c.self.inside in
     let connection = c.in-Some.connection.now in
     step_tells (g.R.Renderer.page hub.shelf.0) (g.R.Renderer.page c.args.self.now.0)
-    (world_of hub.shelf.1 hub.takes_puts hub.readers hub.settings hub.given hub.connections) c.args.self.now.1
+    (world_of hub.shelf.1 hub.media hub.takes_puts hub.readers hub.settings hub.given hub.connections) c.args.self.now.1
     (λ i. g.R.Renderer.page (c.self.view_is i).0) (λ i. (c.self.view_is i).1) c.args.id.0 connection c.in-Some.ensures
     c.if-connection.false c.in-Request.used c.in-Request.request
     (subst (IsNext connection.unread) c.in-Request.is (c.in_ok-next_request.ensures.found connection (sym c.in-Some.ensures)))
@@ -64,8 +65,8 @@ returns-in_ok-answer-in-Request-clause-edit g c =
 pub returns-in-More-clause-counted : goal.returns-in-More-clause-counted
 returns-in-More-clause-counted g c =
     let hub = c.self.inside in
-    let before = world_of hub.shelf.1 hub.takes_puts hub.readers hub.settings hub.given hub.connections in
-    let after = world_of hub.shelf.1 hub.takes_puts hub.readers hub.settings hub.given c.next_request.new.self in
+    let before = world_of hub.shelf.1 hub.media hub.takes_puts hub.readers hub.settings hub.given hub.connections in
+    let after = world_of hub.shelf.1 hub.media hub.takes_puts hub.readers hub.settings hub.given c.next_request.new.self in
     let connection = c.in-Some.connection.now in
     counted_by (g.R.Renderer.page hub.shelf.0) (g.R.Renderer.page c.args.self.now.0) (g.R.Renderer.count hub.shelf.0)
     (g.R.Renderer.count c.args.self.now.0) (g.R.Renderer.count hub.shelf.0) before c.args.self.now.1 after (step_on c.args.id) _
@@ -78,8 +79,8 @@ returns-in-More-clause-counted g c =
 pub returns-in_ok-bytes-in-Fault-clause-counted : goal.returns-in_ok-bytes-in-Fault-clause-counted
 returns-in_ok-bytes-in-Fault-clause-counted g c =
     let hub = c.self.inside in
-    let before = world_of hub.shelf.1 hub.takes_puts hub.readers hub.settings hub.given hub.connections in
-    let after = world_of hub.shelf.1 hub.takes_puts hub.readers hub.settings hub.given c.finish.new.self in
+    let before = world_of hub.shelf.1 hub.media hub.takes_puts hub.readers hub.settings hub.given hub.connections in
+    let after = world_of hub.shelf.1 hub.media hub.takes_puts hub.readers hub.settings hub.given c.finish.new.self in
     let connection = c.in-Some.connection.now in
     counted_by (g.R.Renderer.page hub.shelf.0) (g.R.Renderer.page c.args.self.now.0) (g.R.Renderer.count hub.shelf.0)
     (g.R.Renderer.count c.args.self.now.0) (g.R.Renderer.count hub.shelf.0) before c.args.self.now.1 after (step_on c.args.id) _
@@ -92,8 +93,8 @@ returns-in_ok-bytes-in-Fault-clause-counted g c =
 pub returns-in_ok-answer-in-Request-clause-counted : goal.returns-in_ok-answer-in-Request-clause-counted
 returns-in_ok-answer-in-Request-clause-counted g c =
     let hub = c.self.inside in
-    let before = world_of hub.shelf.1 hub.takes_puts hub.readers hub.settings hub.given hub.connections in
-    let after = world_of c.answer.new.shelf.1 hub.takes_puts hub.readers hub.settings hub.given c.finish-in-Request.new.self in
+    let before = world_of hub.shelf.1 hub.media hub.takes_puts hub.readers hub.settings hub.given hub.connections in
+    let after = world_of c.answer.new.shelf.1 hub.media hub.takes_puts hub.readers hub.settings hub.given c.finish-in-Request.new.self in
     let connection = c.in-Some.connection.now in
     counted_by (g.R.Renderer.page hub.shelf.0) (g.R.Renderer.page c.args.self.now.0) (g.R.Renderer.count hub.shelf.0)
     (g.R.Renderer.count c.args.self.now.0) (g.R.Renderer.count c.answer.new.shelf.0) before c.args.self.now.1 after (step_on c.args.id) _

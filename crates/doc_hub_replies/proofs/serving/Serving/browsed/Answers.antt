@@ -1,6 +1,7 @@
 use Rattle.std.proofs.Common.{false, Some, ap, refl, sym, ◌∙◌}
 use Rattle.std.proofs.lemmas.Bool.{and_parts}
 use Rattle.doc_http_targets.specs.PeopleTargets.{is_style_sheet}
+use Rattle.doc_media.specs.Media.{beside_of}
 use Rattle.doc_store_readers.specs.Sites.{view_of}
 use Rattle.doc_hub_answers.specs.Edits.{puts_taken}
 use Rattle.doc_hub_answers.specs.Replies.{method_of, reads}
@@ -21,7 +22,8 @@ returns-then-asks_for_style-clause-answer g c =
     let store = c.args.shelf.now.1 in
     let browse = c.args.browse.now in
     let asking = reader_asking (Some browse) c.args.self.now.readers.now request in
-    style_so browse (g.R.Renderer.page c.args.shelf.now.0) (view_of store.site (row_of asking)) asking store (puts_taken c.args.self.now.takes_puts store.puts)
+    style_so browse (g.R.Renderer.page c.args.shelf.now.0) (view_of store.site (row_of asking))
+    (beside_of c.args.self.now.media.now (row_of asking)) asking store (puts_taken c.args.self.now.takes_puts store.puts)
     (closes_after c.args.self.now.settings.now request) request c.style.result
     (sym c.asks_for_style.ensures ∙ c.if-asks_for_style.true) c.style.ensures
 
@@ -47,9 +49,9 @@ returns-in_default-clause-answer g c =
     let asking = reader_asking (Some browse) c.args.self.now.readers.now request in
     let render = g.R.Renderer.page c.args.shelf.now.0 in
     let left = puts_taken c.args.self.now.takes_puts store.puts in
-    unedited_so browse render store left (closes_after c.args.self.now.settings.now request) request told c.unedited.new.shelf.1
+    unedited_so browse render store c.args.self.now.media.now left (closes_after c.args.self.now.settings.now request) request told c.unedited.new.shelf.1
     c.unedited.result asking c.in_ok-asking.ensures (sym c.asks_for_style.ensures ∙ c.if-asks_for_style.false)
-    (nothing_is_asked render browse (view_of store.site (row_of told)) left (is_for_people request) request told (sym c.in_default.ensures))
+    (nothing_is_asked render browse (view_of store.site (row_of told)) (beside_of c.args.self.now.media.now (row_of told)) left (is_for_people request) request told (sym c.in_default.ensures))
     c.unedited.ensures.answer
 
 pub returns-in_default-clause-counted : goal.returns-in_default-clause-counted
@@ -72,7 +74,7 @@ returns-in-Some-row-clause-answer g c =
     let asking = reader_asking (Some browse) c.args.self.now.readers.now request in
     let render = g.R.Renderer.page c.args.shelf.now.0 in
     let left = puts_taken c.args.self.now.takes_puts store.puts in
-    edited_so browse render store left (closes_after c.args.self.now.settings.now request) request told c.edited.new.shelf.1
+    edited_so browse render store c.args.self.now.media.now left (closes_after c.args.self.now.settings.now request) request told c.edited.new.shelf.1
     c.edited.result asking c.in_ok-asking.ensures (sym c.asks_for_style.ensures ∙ c.if-asks_for_style.false) c.in-Some-row.row.now
     (edit_request_shown c.in-Some.asked) c.in-Some-row.ensures (sym c.in-Some.ensures) c.edited.ensures.answer
 
@@ -99,9 +101,9 @@ returns-clause-answer g c =
     let asking = reader_asking (Some browse) c.args.self.now.readers.now request in
     let render = g.R.Renderer.page c.args.shelf.now.0 in
     let left = puts_taken c.args.self.now.takes_puts store.puts in
-    unedited_so browse render store left (closes_after c.args.self.now.settings.now request) request told c.unedited-in-None.new.shelf.1
+    unedited_so browse render store c.args.self.now.media.now left (closes_after c.args.self.now.settings.now request) request told c.unedited-in-None.new.shelf.1
     c.unedited-in-None.result asking c.in_ok-asking.ensures (sym c.asks_for_style.ensures ∙ c.if-asks_for_style.false)
-    (without_entry render browse (view_of store.site (row_of told)) left (is_for_people request) request told c.in-None.ensures)
+    (without_entry render browse (view_of store.site (row_of told)) (beside_of c.args.self.now.media.now (row_of told)) left (is_for_people request) request told c.in-None.ensures)
     c.unedited-in-None.ensures.answer
 
 pub returns-clause-counted : goal.returns-clause-counted

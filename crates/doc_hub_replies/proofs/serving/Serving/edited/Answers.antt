@@ -1,5 +1,6 @@
 use Rattle.std.proofs.Common.{Bool, Some, ap, subst}
 use Rattle.doc_http.specs.declared.request.Request.{Request}
+use Rattle.doc_media.specs.Media.{beside_of}
 use Rattle.doc_store_readers.specs.Sites.{view_of}
 use Rattle.doc_hub_answers.specs.AnswerSteps.{AnsweredSo}
 use Rattle.doc_hub_answers.specs.Edits.{puts_taken}
@@ -21,7 +22,7 @@ returns-clause-answer g c =
     let store = c.args.shelf.now.1 in
     let row = c.args.row.now in
     let answer_by = λ (takes guest people : Bool) (asks : Request). by_entry (g.R.Renderer.page c.args.shelf.now.0) browse
-    (view_of store.site (Some row)) guest row (puts_taken takes store.puts) people asks (edit_request_shown c.args.asked) in
+    (view_of store.site (Some row)) (beside_of c.args.self.now.media.now (Some row)) guest row (puts_taken takes store.puts) people asks (edit_request_shown c.args.asked) in
     subst (λ takes. AnsweredSo request.body store (editing_answer (dress_for browse asking)
     (answer_by takes (is_guest asking) (is_for_people request) request) (closes_after c.args.self.now.settings.now request) request)
     c.answer.new.shelf.1 c.answer.result) c.exchange-exchange.ensures.takes_puts

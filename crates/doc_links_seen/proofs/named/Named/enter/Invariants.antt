@@ -1,4 +1,4 @@
-use Rattle.std.proofs.Common.{◌≡◌, ℕ, List, Some}
+use Rattle.std.proofs.Common.{◌≡◌, List, Some}
 use Rattle.std.specs.Prelude.{Option}
 use Rattle.doc_links_names.specs.declared.page_numbers.PageNumbers.{PageNumbers}
 use Rattle.doc_links_seen.specs.Numbered.{AreNamed, numbers_at}

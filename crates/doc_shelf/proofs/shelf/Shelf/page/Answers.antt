@@ -1,8 +1,8 @@
 use Rattle.std.proofs.Common.{◌≡◌, ap, subst, ◌∙◌}
 use Rattle.std.specs.Prelude.{IfOk, Some, option_map}
 use Rattle.doc_http_replies.specs.Manners.{dress_of}
-use Rattle.doc_shelf_documents.specs.Documents.{document_reply, page_shown}
-use Rattle.doc_shelf_pages.specs.EditLaws.{document_of}
+use Rattle.doc_media.specs.Media.{beside_of}
+use Rattle.doc_shelf_documents.specs.Documents.{document_beside, document_reply, page_shown}
 use Rattle.doc_shelf_pages.specs.ViewLaws.{seen_in}
 use Rattle.doc_store_readers.specs.Sites.{goal_in}
 use Rattle.doc_shelf.proofs.ShelfSteps.{is_served, looked_at}
@@ -27,12 +27,13 @@ returns-clause-reply g c =
     let page = c.in-Some.page.now in
     let path = c.args.path.now in
     let reader = c.args.reader.now in
+    let media = beside_of c.args.media.now (Some reader) in
     let manner = c.args.manner in
     let sent = document_reply (dress_of manner) manner.head_only manner.close in
     subst (λ shown. IfOk c.reply_with_page.result (λ reply. reply ≡ shown))
-    (ap (λ v. Some (sent (document_of render (goal_in v) path page.page))) c.sight-sight.ensures
-    ∙ ap (option_map (λ p. sent (document_of render (goal_in (seen_in store reader)) path p))) c.in-Some.ensures.page
-    ∙ (λ i. page_shown (g.R.Renderer.page (c.self.view_is i).0) (seen_in (c.self.view_is i).1 reader) path (dress_of manner)
+    (ap (λ v. Some (sent (document_beside render (goal_in v) media path page.page))) c.sight-sight.ensures
+    ∙ ap (option_map (λ p. sent (document_beside render (goal_in (seen_in store reader)) media path p))) c.in-Some.ensures.page
+    ∙ (λ i. page_shown (g.R.Renderer.page (c.self.view_is i).0) (seen_in (c.self.view_is i).1 reader) media path (dress_of manner)
     manner.head_only manner.close))
     (c.reply_with_page.ensures.reply render store page.page
     (is_served render store c.self.inside.kept c.self.inside.cache path page.stamp c.stamp-stamp.result page.page c.self.invariant.shelf

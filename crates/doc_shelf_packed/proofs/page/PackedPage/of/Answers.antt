@@ -10,4 +10,5 @@ returns c = λ i. record {
       (c.in_ok-pieces.ensures ∙ ap shown c.deref.ensures.value) i;
   headings = c.args.page.headings;
   texts = c.args.page.texts;
+  images = c.args.page.images;
 }

@@ -1,6 +1,7 @@
 use Rattle.std.proofs.Common.{ℕ, List, ap, ◌∙◌}
 use Rattle.std.specs.FinMap as map
 use Rattle.doc_shelf_pages.proofs.HeldSteps.{has_key, removed}
+use Rattle.doc_shelf_pages.proofs.ImagedSteps.{imaged_removed}
 use Rattle.doc_shelf_pages.proofs.LinedSteps.{lined_removed}
 use Rattle.doc_shelf_pages.proofs.renderings.Renderings.drop_page.Goals as goal
 
@@ -16,4 +17,7 @@ returns-clause-rest c =
 
 pub invariant_of-self : goal.invariant_of-self
 invariant_of-self c =
-    lined_removed c.self.inside.pages c.drop_page.new.self (c.args.path.now, c.args.stamp) c.self.invariant c.drop_page.ensures.rest
+    let k : List ℕ × ℕ = (c.args.path.now, c.args.stamp) in (
+      lined_removed c.self.inside.pages c.drop_page.new.self k c.self.invariant.0 c.drop_page.ensures.rest,
+      imaged_removed c.self.inside.pages c.drop_page.new.self k c.self.inside.imaged c.self.invariant.1 c.drop_page.ensures.rest,
+    )

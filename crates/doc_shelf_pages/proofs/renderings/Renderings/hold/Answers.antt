@@ -2,6 +2,7 @@ use Rattle.std.proofs.Common.{ℕ, List, ap, ◌∙◌}
 use Rattle.std.specs.FinMap as map
 use Rattle.doc_shelf_pages.specs.declared.lined.Lined.{Lined}
 use Rattle.doc_shelf_pages.proofs.HeldSteps.{added, free}
+use Rattle.doc_shelf_pages.proofs.ImagedSteps.{imaged_after, none_found}
 use Rattle.doc_shelf_pages.proofs.LinedSteps.{lined_after}
 use Rattle.doc_shelf_pages.proofs.renderings.Renderings.hold.Goals as goal
 
@@ -17,5 +18,10 @@ returns-clause-ok c =
 
 pub invariant_of-self : goal.invariant_of-self
 invariant_of-self c =
-    lined_after c.self.inside.pages c.add.new.self (c.args.path.now, c.args.stamp) c.self.invariant c.add.result c.in_ok-lined.lined
-    c.args.page _ c.in_ok-lined.ensures c.add.ensures.ok c.add.ensures.err
+    let k : List ℕ × ℕ = (c.args.path.now, c.args.stamp) in (
+      lined_after c.self.inside.pages c.add.new.self k c.self.invariant.0 c.add.result c.in_ok-lined.lined
+          c.args.page _ c.in_ok-lined.ensures c.add.ensures.ok c.add.ensures.err,
+      imaged_after c.self.inside.pages c.add.new.self k c.self.inside.imaged c.self.invariant.1 c.add.result c.in_ok-lined.lined
+          c.args.page _ c.in_ok-lined.ensures c.add.ensures.ok c.add.ensures.err _
+          (none_found c.images.result.now c.args.page.images _ c.images.ensures c.is_empty-bare.ensures),
+    )

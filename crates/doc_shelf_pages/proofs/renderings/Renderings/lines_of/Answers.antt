@@ -9,7 +9,7 @@ pub returns : goal.returns
 returns c =
     let slots = c.self.inside.pages in
     told c.flagged_lines.result (λ lines is.
-    lines_told slots c.args.self.now c.self.invariant c.self.view_is c.args.flags.now
+    lines_told slots c.args.self.now c.self.invariant.0 c.self.view_is c.args.flags.now
     (entries_of (mapped (slot_at slots) c.deref.result.now))
     (ap (λ ns. entries_of (mapped (slot_at slots) ns)) c.deref.ensures.value ∙ c.in_ok-slots.ensures.entries) (texts_of lines.items) is)
     c.flagged_lines.ensures

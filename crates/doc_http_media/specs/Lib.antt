@@ -1,0 +1,2 @@
+pub mod MediumReplies
+pub mod MediumSteps

@@ -1,0 +1,2 @@
+mod DeskSteps
+pub mod MediaLaws

@@ -1,0 +1,4 @@
+pub mod MediaRequests
+pub mod MediaAnswers
+pub mod MediaSteps
+pub mod Laws

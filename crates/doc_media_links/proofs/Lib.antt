@@ -1,0 +1,5 @@
+pub mod BrokenSteps
+mod Examples
+pub mod FillingLaws
+pub mod ImageLaws
+pub mod PlaceLaws
