@@ -18,8 +18,11 @@ use Rattle.doc_blocks_leaves.specs.OpenBlocks.{paragraph_continued}
 use Rattle.doc_blocks_leaves.specs.OpenLeaves.{is_open, holds_table, paragraph_text, leaf_continued, underlined, with_underlined}
 use Rattle.doc_blocks_leaves.specs.OpenLeaves.{underlined_references}
 use Rattle.doc_blocks_leaves.specs.OpenLeaves.{with_begun}
-use Rattle.doc_blocks_leaves.specs.Views.{with_block, with_closed}
-use Rattle.doc_blocks_leaves.specs.declared.paragraph.Closed.{Closed}
+use Rattle.doc_blocks_starts.specs.Tags.{leaf_shown}
+use Rattle.doc_blocks_starts.specs.declared.table_lines.TableLines.{TableLines}
+use Rattle.doc_blocks_starts.specs.declared.tag.LeafBlock.TheVariants as leaves
+use Rattle.doc_blocks_leaves.specs.Views.{with_block, with_closed, with_lines}
+use Rattle.doc_blocks_leaves.specs.declared.closed.Closed.{Closed}
 use Rattle.doc_blocks.specs.StackSteps.{Outer, Stack, with_inner_blocks, block_begun}
 use Rattle.doc_blocks.specs.PathSteps.{situation_in, paragraph_in}
 use Rattle.doc_blocks.specs.StateSteps.{State, item_met, leaf_behind, heading_made}
@@ -53,12 +56,24 @@ some_open (OpenCode all kept) e f = cc
 some_open (OpenFence fence info text) e f = cc
 some_open (OpenHtml kind all kept) e f = cc
 
--- two blocks that stand behind others
-pub two_put : (s p q : Stack) (closed : Closed) → p ≡ with_inner_blocks s (with_block closed.block (finished s.inner))
-    → q ≡ with_inner_blocks p (with_block closed.table (finished p.inner))
+-- the blocks of a leaf that closed stand behind others
+pub one_put : (s p : Stack) (closed : Closed) → closed.table ≡ None
+    → p ≡ with_inner_blocks s (with_block closed.block (finished s.inner))
+    → p ≡ with_inner_blocks s (with_closed closed (finished s.inner))
+unfolding with_closed with_lines
+one_put s p closed none e =
+    e
+    ∙ sym (ap (λ (t : Option (Bor TableLines)). with_inner_blocks s (with_lines t (with_block closed.block (finished s.inner)))) none)
+
+pub two_put : (s p q : Stack) (closed : Closed) (lines : Bor TableLines) → closed.table ≡ Some lines
+    → p ≡ with_inner_blocks s (with_block closed.block (finished s.inner))
+    → q ≡ with_inner_blocks p (with_block (Some (leaves.Table lines)) (finished p.inner))
     → q ≡ with_inner_blocks s (with_closed closed (finished s.inner))
-unfolding finished_list with_closed
-two_put s p q closed e f = f ∙ ap (λ (x : Stack). with_inner_blocks x (with_block closed.table (finished x.inner))) e
+unfolding finished_list with_closed with_lines with_block leaf_shown
+two_put s p q closed lines some e f =
+    f
+    ∙ ap (λ (x : Stack). with_inner_blocks x (with_block (Some (leaves.Table lines)) (finished x.inner))) e
+    ∙ sym (ap (λ (t : Option (Bor TableLines)). with_inner_blocks s (with_lines t (with_block closed.block (finished s.inner)))) some)
 
 -- ---- the paragraph that a line meets
 

@@ -76,8 +76,7 @@ impl<'t> Builder<'t> {
             return Ok(());
         }
         let blocks = self.leaf.close(heap, entities, &mut self.refs)?;
-        self.levels.put(blocks.block)?;
-        self.levels.put(blocks.table)?;
+        self.levels.put_closed(blocks)?;
         Ok(())
     }
 
@@ -273,7 +272,7 @@ impl<'t> Builder<'t> {
         }
         // Also where the paragraph is open further in than the line went down: then the line is lazy.
         if goes_on_with(self.met(entities, depth), line) {
-            self.leaf.continue_paragraph(line)?;
+            self.leaf.continue_paragraph(line, entities.tables())?;
             return Ok(());
         }
         self.close_to(heap, entities, depth)?;
@@ -282,7 +281,7 @@ impl<'t> Builder<'t> {
             self.leaf.begin_code(line)?;
             return Ok(());
         }
-        self.leaf.begin_paragraph(line)?;
+        self.leaf.begin_paragraph(line, entities.tables())?;
         Ok(())
     }
 

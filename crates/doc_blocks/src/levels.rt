@@ -18,7 +18,7 @@ ghost use Rattle.std.specs.Prelude.{◌≡◌, ◌+◌, ◌<◌, ◌≤◌, ℕ,
 ghost use Rattle.doc_blocks_starts.specs.Items.{kind_of};
 ghost use Rattle.doc_rules.specs.Blocks.{ListItem, list_start};
 ghost use Rattle.doc_blocks_leaves.specs.Paths.{finished};
-ghost use Rattle.doc_blocks_leaves.specs.Views.{with_block};
+ghost use Rattle.doc_blocks_leaves.specs.Views.{with_block, with_closed};
 ghost use Rattle.doc_blocks_starts.specs.Tags as tags;
 ghost use Rattle.doc_blocks.specs.StackSteps.{empty_stack, with_inner_blocks, block_begun, item_begun, container_opened, stack_loosened, IsNotOf, ClosesLast};
 ghost use Rattle.doc_blocks.specs.PathSteps.{gone_on_at, closed_to, GoesDown, MatchesAt};
@@ -28,6 +28,7 @@ ghost use Rattle.doc_blocks.specs.Containers.{container_shown, block_of};
 ghost use Rattle.doc_blocks.specs.LevelSteps.{stack_of, list_of, Suits, IsSound, Leaves};
 
 use crate::container::Container;
+use doc_blocks_leaves::closed::Closed;
 use doc_blocks_starts::item::ListKind;
 use doc_blocks_starts::tag::{ContainerBlock, LeafBlock, Tag};
 use doc_lines::cursor::Cursor;
@@ -124,6 +125,23 @@ impl<'t> Levels<'t> {
         if let Some(leaf) = leaf {
             self.tags.push(Tag::Leaf(leaf))?;
         }
+        Ok(())
+    }
+
+    /// The blocks of a leaf that closed come behind those of the innermost level, whose list closes in any case.
+    pub(crate) fn put_closed(&mut self, closed: Closed<'t>) -> Result<(), Memory>
+        requires { IsSound self.old }
+        ensures stack { OnOk result (stack_of self.new
+            ≡ with_inner_blocks (stack_of self.old)
+            (with_closed closed.entry (finished (stack_of self.old).inner))) }
+        ensures sound { OnOk result (IsSound self.new) }
+        ensures outer { OnOk result (self.new.outer ≡ self.old.outer) }
+    {
+        self.put(closed.block)?;
+        let Some(lines) = closed.table else {
+            return Ok(());
+        };
+        self.put(Some(LeafBlock::Table(lines)))?;
         Ok(())
     }
 

@@ -95,14 +95,10 @@ fn leaf_of(heap: Heap, leaf: LeafBlock) -> Result<Block, Memory>
         }),
         LeafBlock::Html(text) => Ok(Block::Html(Text::copy_of(heap, text)?)),
         LeafBlock::Break => Ok(Block::Break),
-        LeafBlock::Table {
-            header,
-            delimiters,
-            rows,
-        } => Ok(Block::Table {
-            header: Text::copy_of(heap, header)?,
-            delimiters: Text::copy_of(heap, delimiters)?,
-            rows: rows_of(heap, rows)?,
+        LeafBlock::Table(lines) => Ok(Block::Table {
+            header: Text::copy_of(heap, lines.header)?,
+            delimiters: Text::copy_of(heap, lines.delimiters)?,
+            rows: rows_of(heap, lines.rows)?,
         }),
         LeafBlock::Task { done, text } => Ok(Block::Task {
             done,

@@ -1,5 +1,5 @@
 -- The open leaf of the code, seen as that of one pass over the lines, and what is asked of it.
-use Rattle.std.specs.Prelude.{ℕ, Bool, true, false, List, [], ◌∷◌, ◌++◌, ◌≡◌, chars, Option, Some, None}
+use Rattle.std.specs.Prelude.{ℕ, Bool, true, false, List, [], ◌∷◌, ◌++◌, ◌≡◌, chars, Option, Some, None, IfSome}
 use Rattle.doc_rules.specs.Characters.{Text}
 use Rattle.doc_rules.specs.Columns.{Line}
 use Rattle.doc_rules.specs.Rules.{Rules}
@@ -33,9 +33,9 @@ leaf_shown kinds.Code lines = specs.OpenCode lines.all lines.kept
 leaf_shown (kinds.Fenced fence info) lines = specs.OpenFence (fence_shown fence) (chars info) lines.all
 leaf_shown (kinds.Html kind) lines = specs.OpenHtml (kind_of kind) lines.all lines.kept
 
--- of a paragraph the kind says whether a table is in it
+-- of a paragraph the kind says whether a table is in it, where it says anything of that
 abbrev pub IsTold : Kind → Gathering → Type 0
-IsTold (kinds.Paragraph table) lines = table ≡ has_table lines.all
+IsTold (kinds.Paragraph table) lines = IfSome table (λ holds. holds ≡ has_table lines.all)
 IsTold kind lines = Unit {0}
 
 -- the leaf is a paragraph with a table in it

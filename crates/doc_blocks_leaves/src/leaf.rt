@@ -1,5 +1,5 @@
 //! The open leaf of a document that is read line by line: the last block, where it may take the next line.
-ghost use Rattle.std.specs.Prelude.{◌≡◌, [], ◌∷◌, ◌++◌, option_map, IfOk, OnOk};
+ghost use Rattle.std.specs.Prelude.{◌≡◌, [], ◌∷◌, ◌++◌, IfOk, IfSome, OnOk};
 ghost use Rattle.doc_rules.specs.Columns.{text_of};
 ghost use Rattle.doc_rules.specs.Rules.{Rules};
 ghost use Rattle.doc_rules.specs.Tables.{has_table};
@@ -19,9 +19,10 @@ mod close;
 mod kind;
 mod take;
 
+use crate::closed::Closed;
 use crate::gathered::Gathered;
 use crate::line::CODE;
-use crate::paragraph::{Closed, paragraph_text};
+use crate::paragraph::paragraph_text;
 use crate::start::NewLeaf;
 use close::closed;
 use doc_blocks_starts::html::HtmlKind;
@@ -96,13 +97,15 @@ impl<'t> OpenLeaf<'t> {
         }
     }
 
-    /// Whether the leaf is a paragraph with a table in it.
+    /// Whether the leaf is a paragraph with a table in it. It is known where each of its lines came with that wish, and else its text is
+    /// looked through.
     #[tactic(auto, unfolding(crate::specs::OpenLeaves::leaf_shown, crate::specs::OpenLeaves::holds_table))]
     pub fn holds_table(&self) -> bool
         ensures { result ≡ holds_table self.now }
     {
         match &self.kind {
-            Kind::Paragraph { table } => *table,
+            Kind::Paragraph { table: Some(holds) } => *holds,
+            Kind::Paragraph { table: None } => has_table(self.lines.all()),
             _ => false,
         }
     }
@@ -179,47 +182,32 @@ impl<'t> OpenLeaf<'t> {
     }
 
     /// Begins a paragraph with this line (CommonMark 0.31.2, section 4.8). What was open before is dropped, as by all calls that begin
-    /// a leaf.
+    /// a leaf. Where tables are looked for, it is kept whether one is in it.
     #[tactic(auto, unfolding(crate::specs::OpenLeaves::leaf_shown))]
-    pub fn begin_paragraph(&mut self, line: &Cursor) -> Result<(), Memory>
+    pub fn begin_paragraph(&mut self, line: &Cursor, looks: bool) -> Result<(), Memory>
         ensures { OnOk result (self.new ≡ OpenParagraph (line_text (left_of line.now))) }
     {
         self.kind = Kind::Nothing;
         self.lines.clear();
         self.lines.add_text(line)?;
-        self.kind = Kind::Paragraph {
-            table: has_table(self.lines.all()),
-        };
+        let table = table_begun(&self.lines, looks);
+        self.kind = Kind::Paragraph { table };
         Ok(())
     }
 
     /// Goes on with the open paragraph (CommonMark 0.31.2, section 4.8). Where no paragraph is open, nothing happens.
     #[tactic(auto, unfolding(crate::specs::OpenLeaves::leaf_shown, crate::specs::OpenLeaves::leaf_continued))]
-    pub fn continue_paragraph(&mut self, line: &Cursor) -> Result<(), Memory>
+    pub fn continue_paragraph(&mut self, line: &Cursor, looks: bool) -> Result<(), Memory>
         ensures { OnOk result (self.new ≡ leaf_continued (left_of line.now) self.old) }
     {
-        let Some(table) = self.holds_table_with(line) else {
+        let Kind::Paragraph { table } = self.kind else {
             return Ok(());
         };
         self.kind = Kind::Nothing;
+        let table = table_with(&self.lines, table, line, looks);
         self.lines.add_next_text(line)?;
         self.kind = Kind::Paragraph { table };
         Ok(())
-    }
-
-    /// Whether the open paragraph, if there is one, has a table in it when this line goes on with it. Nothing of its text is read but the
-    /// last line.
-    #[tactic(auto, unfolding(crate::specs::OpenLeaves::leaf_shown, crate::specs::OpenLeaves::paragraph_text))]
-    fn holds_table_with(&self, line: &Cursor) -> Option<bool>
-        ensures { result ≡ option_map (λ text. has_table (text ++ 10 ∷ line_text (left_of line.now)))
-            (paragraph_text self.now) }
-    {
-        match &self.kind {
-            Kind::Paragraph { table } => {
-                Some(*table || begins_behind(self.lines.all(), after_indent(line)))
-            }
-            _ => None,
-        }
     }
 
     /// Begins indented code with this line, which isn't blank (CommonMark 0.31.2, section 4.4).
@@ -298,4 +286,27 @@ impl<'t> OpenLeaf<'t> {
         }
         Ok(Some(LeafBlock::Html(self.texts.keep(self.lines.kept())?)))
     }
+}
+
+/// Whether a table is in a paragraph of these lines, where tables are looked for.
+fn table_begun(lines: &Gathered, looks: bool) -> Option<bool>
+    ensures { IfSome result (λ holds. holds ≡ has_table lines.now.all) }
+{
+    if !looks {
+        return None;
+    }
+    Some(has_table(lines.all()))
+}
+
+/// Whether a table is in a paragraph of these lines, of which that is known or not, when another one goes on with it. Nothing of its text
+/// is read but the last line. Where it wasn't known, or tables aren't looked for, it isn't.
+fn table_with(lines: &Gathered, table: Option<bool>, line: &Cursor, looks: bool) -> Option<bool>
+    ensures { IfSome table (λ holds. holds ≡ has_table lines.now.all)
+        → IfSome result (λ holds. holds ≡ has_table (lines.now.all ++ 10 ∷ line_text (left_of line.now))) }
+{
+    if !looks {
+        return None;
+    }
+    let holds = table?;
+    Some(holds || begins_behind(lines.all(), after_indent(line)))
 }

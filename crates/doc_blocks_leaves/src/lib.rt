@@ -2,6 +2,7 @@
 //! gathered for it, and the leaf that a line begins.
 #![tactic(auto)]
 
+pub mod closed;
 mod gathered;
 pub mod laws;
 pub mod leaf;

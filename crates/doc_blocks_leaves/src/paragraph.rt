@@ -3,16 +3,18 @@ ghost use Rattle.std.specs.Prelude.{◌≡◌, ◌==◌, [], false, None, length
 ghost use Rattle.doc_rules.specs.Characters.{Text};
 ghost use Rattle.doc_rules.specs.Rules.{Rules};
 ghost use Rattle.doc_rules.specs.Definitions.{definitions_of};
-ghost use Rattle.doc_rules.specs.Blocks.{Leaf, Paragraph, TableBlock, Blocks, with_text, table_of};
+ghost use Rattle.doc_rules.specs.Blocks.{Leaf, Paragraph, Blocks, with_text, table_of};
 ghost use Rattle.doc_lines.specs.RestSteps.{rest_of};
 ghost use Rattle.doc_refs_parts.specs.Targets.{targets_of, joined};
-ghost use Rattle.doc_blocks_starts.specs.Tags.{leaf_shown};
+ghost use Rattle.doc_blocks_starts.specs.Tags as tags;
 ghost use Rattle.doc_blocks_leaves.specs.Leaves.{OpenParagraph, with_open, open_references};
 ghost use Rattle.doc_blocks_leaves.specs.OpenLeaves.{with_leaf_of};
 ghost use Rattle.doc_blocks_leaves.specs.TableTexts.{table_shown, IsTableOf};
 ghost use Rattle.doc_blocks_leaves.specs.Views.{with_block, with_closed};
 
+use crate::closed::Closed;
 use crate::strip::strip_end;
+use doc_blocks_starts::table_lines::TableLines;
 use doc_blocks_starts::tag::LeafBlock;
 use doc_blocks_starts::texts::Texts;
 use doc_lines::entities::Entities;
@@ -21,25 +23,6 @@ use doc_page_parts::failure::Memory;
 use doc_page_parts::heap::Heap;
 use doc_refs::{RefMap, take_definitions};
 use doc_tables::table::{TableText, first_table};
-
-/// The blocks that an open leaf leaves when it closes.
-#[derive(Clone, Copy)]
-pub struct Closed<'t> {
-    /// Its block, or the paragraph before a table.
-    pub block: Option<LeafBlock<'t>>,
-    /// The table in a paragraph.
-    pub table: Option<LeafBlock<'t>>,
-}
-
-impl<'t> Closed<'t> {
-    /// One block, or none.
-    #[tactic(auto, unfolding(crate::specs::Views::with_closed, crate::specs::Views::with_block))]
-    pub fn of(block: Option<LeafBlock<'t>>) -> Closed<'t>
-        ensures { (before : Blocks) → with_closed result before ≡ with_block block.entry before }
-    {
-        Closed { block, table: None }
-    }
-}
 
 /// The blocks of a paragraph's text: the paragraph that definitions leave, if they leave any, and behind it the table in the text, where
 /// tables are read (GitHub Flavored Markdown 0.29, section 4.10). Their texts stand in `texts`. What the definitions name joins `refs`.
@@ -79,18 +62,18 @@ fn table_of<'a>(text: &'a str, entities: &Entities) -> Option<TableText<'a>>
 }
 
 /// A table, with its texts in `texts`.
-#[tactic(auto, unfolding(doc_blocks_starts::specs::Tags::leaf_shown))]
-fn kept_table<'t>(texts: &'t Texts, found: TableText) -> Result<LeafBlock<'t>, Memory>
-    ensures { IfOk result (λ table. leaf_shown table ≡ TableBlock (table_shown found.entry)) }
+fn kept_table<'t>(texts: &'t Texts, found: TableText) -> Result<&'t TableLines<'t>, Memory>
+    ensures { IfOk result (λ lines. tags.table_shown lines.now ≡ table_shown found.entry) }
 {
     let header = texts.keep(found.header)?;
     let delimiters = texts.keep(found.delimiters)?;
     let rows = kept_rows(texts, found.rows)?;
-    Ok(LeafBlock::Table {
+    let lines = texts.keep_lines(TableLines {
         header,
         delimiters,
         rows,
-    })
+    })?;
+    Ok(lines)
 }
 
 fn kept_rows<'t>(texts: &'t Texts, rows: Option<&str>) -> Result<Option<&'t str>, Memory>

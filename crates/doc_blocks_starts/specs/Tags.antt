@@ -3,8 +3,10 @@ use Rattle.std.specs.Prelude.{List, [], ◌∷◌, ◌++◌, map, chars}
 use Rattle.doc_rules.specs.Forests.{none, ◌▹◌, node}
 use Rattle.doc_rules.specs.Blocks.{Leaf, Paragraph, Heading, IndentedCode, FencedCode, HtmlBlock, ThematicBreak, TableBlock, Task}
 use Rattle.doc_rules.specs.Blocks.{Container, BlockQuote, ListBlock, ListItem, Blocks}
+use Rattle.doc_rules.specs.Tables.{TableSource}
 use Rattle.doc_lines.specs.RestSteps.{rest_of}
 use Rattle.doc_blocks_starts.specs.Tables.{lines_in, source_of}
+use Rattle.doc_blocks_starts.specs.declared.table_lines.TableLines.{TableLines}
 use Rattle.doc_blocks_starts.specs.declared.tag.LeafBlock.{LeafBlock}
 use Rattle.doc_blocks_starts.specs.declared.tag.LeafBlock.TheVariants as leaf
 use Rattle.doc_blocks_starts.specs.declared.tag.ContainerBlock.{ContainerBlock}
@@ -26,6 +28,9 @@ tags_of (node before container inside) = tags_of before ++ Start container ∷ (
 
 -- ---- the tags of the code
 
+abbrev pub table_shown : TableLines → TableSource
+table_shown lines = source_of (chars lines.header.now) (chars lines.delimiters.now) (lines_in (rest_of lines.rows))
+
 unfoldable pub leaf_shown : LeafBlock → Leaf
 leaf_shown (leaf.Para text) = Paragraph (chars text.now)
 leaf_shown (leaf.Heading level text) = Heading level (chars text.now)
@@ -33,7 +38,7 @@ leaf_shown (leaf.Code text) = IndentedCode (chars text.now)
 leaf_shown (leaf.Fence info text) = FencedCode (chars info.now) (chars text.now)
 leaf_shown (leaf.Html text) = HtmlBlock (chars text.now)
 leaf_shown leaf.Break = ThematicBreak
-leaf_shown (leaf.Table header delimiters rows) = TableBlock (source_of (chars header.now) (chars delimiters.now) (lines_in (rest_of rows)))
+leaf_shown (leaf.Table lines) = TableBlock (table_shown lines.now)
 leaf_shown (leaf.Task done text) = Task done (chars text.now)
 
 unfoldable pub container_shown : ContainerBlock → Container

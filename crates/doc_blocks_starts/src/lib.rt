@@ -11,6 +11,7 @@ pub mod item;
 pub mod quote;
 mod run;
 pub mod strip;
+pub mod table_lines;
 pub mod tag;
 pub mod texts;
 pub mod thematic_break;

@@ -1,5 +1,7 @@
 //! Tags.
 
+use crate::table_lines::TableLines;
+
 /// A leaf block (CommonMark 0.31.2, section 4; tables and tasks: GitHub Flavored Markdown 0.29, sections 4.10 and
 /// 5.3).
 #[derive(Clone, Copy)]
@@ -22,12 +24,8 @@ pub enum LeafBlock<'t> {
     Html(&'t str),
     /// A thematic break.
     Break,
-    /// A table: its header, its delimiter row, and the lines behind them, joined by LF, if there are any. Their cells are still to be read.
-    Table {
-        header: &'t str,
-        delimiters: &'t str,
-        rows: Option<&'t str>,
-    },
+    /// A table. Its lines stand beside its text, so that every tag takes little room.
+    Table(&'t TableLines<'t>),
     /// The first paragraph of an item that is a task, without the marker.
     Task {
         done: bool,

@@ -1,6 +1,7 @@
 //! Where the texts of leaf blocks stand.
 ghost use Rattle.std.specs.Prelude.{◌≡◌, IfOk};
 
+use crate::table_lines::TableLines;
 use bumpalo::Bump;
 use doc_page_parts::failure::Memory;
 use doc_page_parts::heap::Heap;
@@ -30,6 +31,16 @@ impl Texts {
         ensures { IfOk result (λ kept. kept.now ≡ text.now) }
     {
         match self.texts.try_alloc_str(text) {
+            Ok(kept) => Ok(kept),
+            Err(_) => Err(Memory),
+        }
+    }
+
+    /// The lines of a table, where they stay.
+    pub fn keep_lines<'t>(&'t self, lines: TableLines<'t>) -> Result<&'t TableLines<'t>, Memory>
+        ensures { IfOk result (λ kept. kept.now ≡ lines.entry) }
+    {
+        match self.texts.try_alloc(lines) {
             Ok(kept) => Ok(kept),
             Err(_) => Err(Memory),
         }

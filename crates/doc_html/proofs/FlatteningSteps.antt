@@ -1,10 +1,14 @@
 -- Tags of blocks, put behind others.
-use Rattle.std.proofs.Common.{◌≡◌, ℕ, ◌<◌, ◌+◌, List, [], ◌∷◌, ◌++◌, ap, sym, ◌∙◌, subst, length, take, get_or}
-use Rattle.std.specs.Prelude.{Result, OnOk}
+use Rattle.std.proofs.Common.{◌≡◌, ℕ, ◌<◌, ◌+◌, Bor, List, [], ◌∷◌, ◌++◌, Option, ap, chars, sym, ◌∙◌, subst, length, take, get_or}
+use Rattle.std.specs.Prelude.{Result, OnOk, option_map}
 use Rattle.std.proofs.lemmas.List.{take_more, map-append}
 use Rattle.doc_rules.specs.Blocks.{Blocks}
+use Rattle.doc_rules.specs.Characters.{Text}
+use Rattle.doc_lines.specs.RestSteps.{rest_of}
+use Rattle.doc_blocks_starts.specs.Tables.{lines_in, source_of}
+use Rattle.doc_blocks_starts.specs.declared.table_lines.TableLines.{TableLines}
 use Rattle.doc_blocks_starts.specs.declared.tag.Tag as code
-use Rattle.doc_blocks_starts.specs.Tags.{Tag, tag_shown, tags_shown}
+use Rattle.doc_blocks_starts.specs.Tags.{Tag, table_shown, tag_shown, tags_shown}
 use Rattle.doc_blocks_starts.specs.OpenTags.{Entry, open_tags}
 use Rattle.doc_blocks.specs.declared.block.Block.{Block}
 use Rattle.doc_blocks.specs.Views.{behind, forest}
@@ -36,3 +40,16 @@ forest_goes_on outer items i block before l e is =
     = ap (λ some. forest some before) (take_more items i block l)
     ∙ (forest_push (take i items) (get_or items i block) before ∙ ap (λ one. behind one (forest (take i items) before)) (sym e)) in
     is ∙ ap (open_tags outer) (sym more)
+
+-- ---- tables
+
+-- the lines of a table, kept beside the tags
+pub kept_lines : (lines : TableLines) (header delimiters : Bor (List ℕ)) (rows : Option (Bor (List ℕ))) (above row : List ℕ)
+    (below : Option (List ℕ)) → lines ≡ record { header = header; delimiters = delimiters; rows = rows } → header.now ≡ above
+    → delimiters.now ≡ row → rest_of rows ≡ option_map chars below
+    → table_shown lines ≡ source_of (chars above) (chars row) (lines_in (option_map chars below))
+kept_lines lines header delimiters rows above row below is e f g =
+    ap table_shown is
+    ∙ (ap (λ (t : List ℕ). source_of (chars t) (chars delimiters.now) (lines_in (rest_of rows))) e
+    ∙ (ap (λ (t : List ℕ). source_of (chars above) (chars t) (lines_in (rest_of rows))) f
+    ∙ ap (λ (o : Option Text). source_of (chars above) (chars row) (lines_in o)) g))

@@ -44,7 +44,8 @@ pub fn to_html<L: Linker>(
         (html_of entities.now rule []
         (record { blocks = blocks_shown document.now.blocks.items; refs = definitions }))) }
 {
-    let tags = tags_of(heap, document.blocks.as_slice())?;
+    let texts = Texts::new(heap);
+    let tags = tags_of(heap, &texts, document.blocks.as_slice())?;
     let html = write_html(
         heap,
         tags.as_slice(),

@@ -1,43 +1,58 @@
 //! The tags of trees of blocks.
 ghost use Rattle.std.specs.Prelude.{◌≡◌, ◌∷◌, List, chars, option_map, IfOk, OnOk};
 ghost use Rattle.doc_rules.specs.Forests.{none, ◌▹◌, node};
-ghost use Rattle.doc_rules.specs.Blocks.{Blocks};
+ghost use Rattle.doc_rules.specs.Blocks.{Blocks, TableBlock};
 ghost use Rattle.doc_lines.specs.RestSteps.{rest_of};
+ghost use Rattle.doc_blocks_starts.specs.Tables.{lines_in, source_of};
 ghost use Rattle.doc_blocks_starts.specs.Tags.{container_shown, leaf_shown, tags_of, tags_shown};
 ghost use Rattle.doc_blocks_starts.specs.OpenTags.{Entry, open_tags};
 ghost use Rattle.doc_blocks.specs.Views.{behind, blocks_shown, forest};
 
 use doc_blocks::Block;
+use doc_blocks_starts::table_lines::TableLines;
 use doc_blocks_starts::tag::{ContainerBlock, LeafBlock, Tag};
+use doc_blocks_starts::texts::Texts;
 use doc_page_parts::failure::Memory;
 use doc_page_parts::heap::{Heap, Vec};
 use doc_page_parts::text::Text;
 
-/// The tags of blocks.
-pub(crate) fn tags_of<'d>(heap: Heap, blocks: &'d [Block]) -> Result<Vec<Tag<'d>>, Memory>
+/// The tags of blocks. The lines of tables stand in `texts`.
+pub(crate) fn tags_of<'d>(
+    heap: Heap,
+    texts: &'d Texts,
+    blocks: &'d [Block],
+) -> Result<Vec<Tag<'d>>, Memory>
     ensures { IfOk result (λ tags. tags_shown tags.items ≡ tags_of (blocks_shown blocks.now)) }
 {
     let mut tags: Vec<Tag<'d>> = Vec::new(heap);
-    push_tags(&mut tags, blocks)?;
+    push_tags(&mut tags, texts, blocks)?;
     Ok(tags)
 }
 
 /// Puts the tags of blocks behind these.
 #[cycle(blocks)]
-fn push_tags<'d>(tags: &mut Vec<Tag<'d>>, blocks: &'d [Block]) -> Result<(), Memory>
+fn push_tags<'d>(
+    tags: &mut Vec<Tag<'d>>,
+    texts: &'d Texts,
+    blocks: &'d [Block],
+) -> Result<(), Memory>
     ensures { (outer : List Entry) (before : Blocks)
         → tags_shown tags.old.items ≡ open_tags outer before →
         OnOk result (tags_shown tags.new.items ≡ open_tags outer (forest blocks.now before)) }
 {
     for block in blocks {
-        push_block(tags, block)?;
+        push_block(tags, texts, block)?;
     }
     Ok(())
 }
 
 /// Puts the tags of a block behind these.
 #[cycle(blocks)]
-fn push_block<'d>(tags: &mut Vec<Tag<'d>>, block: &'d Block) -> Result<(), Memory>
+fn push_block<'d>(
+    tags: &mut Vec<Tag<'d>>,
+    texts: &'d Texts,
+    block: &'d Block,
+) -> Result<(), Memory>
     ensures { (outer : List Entry) (before : Blocks)
         → tags_shown tags.old.items ≡ open_tags outer before →
         OnOk result (tags_shown tags.new.items ≡ open_tags outer (behind block.now before)) }
@@ -65,14 +80,7 @@ fn push_block<'d>(tags: &mut Vec<Tag<'d>>, block: &'d Block) -> Result<(), Memor
             header,
             delimiters,
             rows,
-        } => push_leaf(
-            tags,
-            LeafBlock::Table {
-                header: header.get(),
-                delimiters: delimiters.get(),
-                rows: rows_of(rows),
-            },
-        ),
+        } => push_table(tags, texts, header, delimiters, rows),
         Block::Task { done, text } => push_leaf(
             tags,
             LeafBlock::Task {
@@ -80,21 +88,44 @@ fn push_block<'d>(tags: &mut Vec<Tag<'d>>, block: &'d Block) -> Result<(), Memor
                 text: text.get(),
             },
         ),
-        Block::Quote(inside) => push_container(tags, ContainerBlock::Quote, inside),
+        Block::Quote(inside) => push_container(tags, texts, ContainerBlock::Quote, inside),
         Block::List {
             start,
             tight,
             items,
         } => push_container(
             tags,
+            texts,
             ContainerBlock::List {
                 start: *start,
                 tight: *tight,
             },
             items,
         ),
-        Block::Item(inside) => push_container(tags, ContainerBlock::Item, inside),
+        Block::Item(inside) => push_container(tags, texts, ContainerBlock::Item, inside),
     }
+}
+
+/// Puts the tag of the table of these lines behind these.
+fn push_table<'d>(
+    tags: &mut Vec<Tag<'d>>,
+    texts: &'d Texts,
+    header: &'d Text,
+    delimiters: &'d Text,
+    rows: &'d Option<Text>,
+) -> Result<(), Memory>
+    ensures { (outer : List Entry) (before : Blocks)
+        → tags_shown tags.old.items ≡ open_tags outer before →
+        OnOk result (tags_shown tags.new.items
+        ≡ open_tags outer (before ▹ TableBlock (source_of (chars header.now) (chars delimiters.now)
+        (lines_in (option_map chars rows.now))))) }
+{
+    let lines = texts.keep_lines(TableLines {
+        header: header.get(),
+        delimiters: delimiters.get(),
+        rows: rows_of(rows),
+    })?;
+    push_leaf(tags, LeafBlock::Table(lines))
 }
 
 /// The lines behind a delimiter row, if there are any.
@@ -111,6 +142,7 @@ fn rows_of(rows: &Option<Text>) -> Option<&str>
 #[cycle(blocks)]
 fn push_container<'d>(
     tags: &mut Vec<Tag<'d>>,
+    texts: &'d Texts,
     container: ContainerBlock,
     inside: &'d [Block],
 ) -> Result<(), Memory>
@@ -120,7 +152,7 @@ fn push_container<'d>(
         ≡ open_tags outer (node before (container_shown container) (blocks_shown inside.now))) }
 {
     push_start(tags, container)?;
-    push_tags(tags, inside)?;
+    push_tags(tags, texts, inside)?;
     push_end(tags, container)?;
     Ok(())
 }

@@ -45,11 +45,7 @@ pub(crate) fn push_leaf<'d, W: Writer>(
         LeafBlock::Fence { info, text } => push_fenced(writer, info, text),
         LeafBlock::Html(text) => push_html_block(writer, text),
         LeafBlock::Break => push_break(writer),
-        LeafBlock::Table {
-            header,
-            delimiters,
-            rows,
-        } => push_table(writer, source, reader, header, delimiters, rows),
+        LeafBlock::Table(lines) => push_table(writer, source, reader, lines),
         LeafBlock::Task { done, text } => {
             push_paragraph(writer, source, reader, task_box(done), text, tight)
         }

@@ -6,7 +6,8 @@ ghost use Rattle.doc_rules.specs.PlainTexts.{text_in};
 ghost use Rattle.doc_rules.specs.Tables.{cells_of_line, text_lines};
 ghost use Rattle.doc_lines.specs.RestSteps.{rest_of};
 ghost use Rattle.doc_refs_parts.specs.Targets.{targets_of};
-ghost use Rattle.doc_blocks_starts.specs.Tables.{columns_said, lines_in, source_of};
+ghost use Rattle.doc_blocks_starts.specs.Tables.{columns_said};
+ghost use Rattle.doc_blocks_starts.specs.Tags.{table_shown};
 ghost use Rattle.doc_tables.specs.CellSteps.{cell_text, cells_left, has_escaped_pipe};
 ghost use Rattle.doc_html.specs.InlineSteps.{is_ascii};
 ghost use Rattle.doc_html.specs.ProgressSteps.{Goes, Writes, text_met};
@@ -16,6 +17,7 @@ ghost use Rattle.doc_html.specs.TableSteps.{table_told, IsCellStep};
 use crate::inlines::push_marks;
 use crate::reading::Source;
 use crate::writer::{Writer, markup};
+use doc_blocks_starts::table_lines::TableLines;
 use doc_inlines::Reader;
 use doc_page_parts::failure::Memory;
 use doc_page_parts::heap::{Heap, Vec};
@@ -30,22 +32,19 @@ pub(crate) fn push_table<'d, W: Writer>(
     writer: &mut W,
     source: &Source<'d>,
     reader: &mut Reader<'d, 'd>,
-    header: &'d str,
-    delimiters: &str,
-    rows: Option<&'d str>,
+    lines: &'d TableLines<'d>,
 ) -> Result<(), Memory>
     ensures { (definitions : List Definition) → source.now.refs.now ≡ targets_of definitions →
         OnOk result (Goes W.holds writer.old writer.new
-        (table_told source.now.entities.now definitions
-        (source_of (chars header.now) (chars delimiters.now) (lines_in (rest_of rows.entry))))) }
+        (table_told source.now.entities.now definitions (table_shown lines.now))) }
 {
-    let columns = columns_said(source.heap, delimiters)?;
+    let columns = columns_said(source.heap, lines.delimiters)?;
     let columns = columns.as_slice();
     writer.new_line()?;
     markup(writer, "<table>\n<thead>\n")?;
-    push_header(writer, source, reader, columns, header)?;
+    push_header(writer, source, reader, columns, lines.header)?;
     markup(writer, "</thead>\n")?;
-    push_body(writer, source, reader, columns, rows)?;
+    push_body(writer, source, reader, columns, lines.rows)?;
     markup(writer, "</table>\n")?;
     Ok(())
 }

@@ -6,9 +6,10 @@ ghost use Rattle.doc_refs_parts.specs.Targets.{targets_of, joined};
 ghost use Rattle.doc_blocks_leaves.specs.OpenLeaves.{leaf_shown};
 ghost use Rattle.doc_blocks_leaves.specs.Views.{with_closed};
 
+use crate::closed::Closed;
 use crate::gathered::Gathered;
 use crate::leaf::kind::Kind;
-use crate::paragraph::{Closed, paragraph_blocks};
+use crate::paragraph::paragraph_blocks;
 use doc_blocks_starts::tag::LeafBlock;
 use doc_blocks_starts::texts::Texts;
 use doc_lines::entities::Entities;

@@ -8,8 +8,8 @@ use doc_page_parts::text::Text;
 #[derive(Drop)]
 pub enum Kind {
     Nothing,
-    /// Whether a table is in its text.
-    Paragraph { table: bool },
+    /// Whether a table is in its text, where that was asked of each of its lines.
+    Paragraph { table: Option<bool> },
     /// Indented code.
     Code,
     /// A fence with its info string, whose escapes and references are read.

@@ -3,7 +3,6 @@ use Rattle.doc_rules.specs.Forests.{◌▹◌, node}
 use Rattle.doc_rules.specs.Blocks.{Paragraph, Heading, IndentedCode, FencedCode, HtmlBlock, ThematicBreak, TableBlock, Task}
 use Rattle.doc_rules.specs.Blocks.{BlockQuote, ListBlock, ListItem}
 use Rattle.std.specs.Prelude.{option_map}
-use Rattle.doc_lines.specs.RestSteps.{rest_of}
 use Rattle.doc_blocks_starts.specs.Tables.{lines_in, source_of}
 use Rattle.doc_blocks_starts.specs.Tags.{leaf_shown, container_shown}
 use Rattle.doc_blocks.specs.Views.{behind, blocks_shown, forest}
@@ -68,20 +67,12 @@ push_block-returns-in-Break t c = λ outer before is.
     as_blocks c.push_leaf-in-Break.result c.push_leaf-in-Break.new.tags.items outer _ _ e (c.push_leaf-in-Break.ensures outer before is)
 
 pub push_block-returns-in-Table : goal.push_block-returns-in-Table
-unfolding leaf_shown
 push_block-returns-in-Table t c = λ outer before is.
     let e : behind c.args.block.now before
-    ≡ before ▹ TableBlock (source_of (chars c.get-in-Table.result.now) (chars c.get-in-Table-2.result.now)
-    (lines_in (rest_of c.rows_of.result)))
+    ≡ before ▹ TableBlock (source_of (chars c.in-Table.header) (chars c.in-Table.delimiters) (lines_in (option_map chars c.in-Table.rows)))
     = ap (λ b. behind b before) c.in-Table.is
-    ∙ (behind_table c.in-Table.header c.in-Table.delimiters c.in-Table.rows before
-    ∙ (ap (λ x. before ▹ TableBlock (source_of (chars x) (chars c.in-Table.delimiters) (lines_in (option_map chars c.in-Table.rows))))
-    (sym c.get-in-Table.ensures)
-    ∙ (ap (λ x. before ▹ TableBlock (source_of (chars c.get-in-Table.result.now) (chars x) (lines_in (option_map chars c.in-Table.rows))))
-    (sym c.get-in-Table-2.ensures)
-    ∙ ap (λ x. before ▹ TableBlock (source_of (chars c.get-in-Table.result.now) (chars c.get-in-Table-2.result.now) (lines_in x)))
-    (sym c.rows_of.ensures)))) in
-    as_blocks c.push_leaf-in-Table.result c.push_leaf-in-Table.new.tags.items outer _ _ e (c.push_leaf-in-Table.ensures outer before is)
+    ∙ behind_table c.in-Table.header c.in-Table.delimiters c.in-Table.rows before in
+    as_blocks c.push_table.result c.push_table.new.tags.items outer _ _ e (c.push_table.ensures outer before is)
 
 pub push_block-returns-in-Task : goal.push_block-returns-in-Task
 unfolding leaf_shown

@@ -18,9 +18,8 @@ pub returns-clause-state : goal.returns-clause-state
 returns-clause-state c =
     let s = c.args.self.now in
     let stack = stack_of s.levels in
-    laws.same_state (stack_of c.put-2.new.self) _ c.close.new.self NoLeaf c.close.new.refs _
-    (laws.two_put stack (stack_of c.put.new.self) (stack_of c.put-2.new.self) c.in_ok-blocks.blocks c.in_ok-put.ensures.stack
-    c.in_ok-put-2.ensures.stack
+    laws.same_state (stack_of c.put_closed.new.self) _ c.close.new.self NoLeaf c.close.new.refs _
+    (c.in_ok-put_closed.ensures.stack
     ∙ (ap (with_inner_blocks stack) (c.in_ok-blocks.ensures.blocks (finished stack.inner))
     ∙ ap (λ (l : Level). record stack { inner = l })
     (sym (leaves.leaf_closed_some c.args.entities.now stack.inner s.leaf
