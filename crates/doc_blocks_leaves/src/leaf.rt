@@ -302,7 +302,8 @@ fn table_begun(lines: &Gathered, looks: bool) -> Option<bool>
 /// is read but the last line. Where it wasn't known, or tables aren't looked for, it isn't.
 fn table_with(lines: &Gathered, table: Option<bool>, line: &Cursor, looks: bool) -> Option<bool>
     ensures { IfSome table (λ holds. holds ≡ has_table lines.now.all)
-        → IfSome result (λ holds. holds ≡ has_table (lines.now.all ++ 10 ∷ line_text (left_of line.now))) }
+        → IfSome result (λ holds. holds
+        ≡ has_table (lines.now.all ++ 10 ∷ line_text (left_of line.now))) }
 {
     if !looks {
         return None;

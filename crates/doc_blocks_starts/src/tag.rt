@@ -9,17 +9,11 @@ pub enum LeafBlock<'t> {
     /// A paragraph, without the definitions at its front.
     Para(&'t str),
     /// A heading of a level from 1 to 6.
-    Heading {
-        level: u8,
-        text: &'t str,
-    },
+    Heading { level: u8, text: &'t str },
     /// Indented code. Each line ends in LF.
     Code(&'t str),
     /// A fenced code block with its info string, whose escapes and references are read. Each line ends in LF.
-    Fence {
-        info: &'t str,
-        text: &'t str,
-    },
+    Fence { info: &'t str, text: &'t str },
     /// An HTML block, its lines joined by LF.
     Html(&'t str),
     /// A thematic break.
@@ -27,10 +21,7 @@ pub enum LeafBlock<'t> {
     /// A table. Its lines stand beside its text, so that every tag takes little room.
     Table(&'t TableLines<'t>),
     /// The first paragraph of an item that is a task, without the marker.
-    Task {
-        done: bool,
-        text: &'t str,
-    },
+    Task { done: bool, text: &'t str },
 }
 
 /// A container block (CommonMark 0.31.2, section 5), without what stands in it. Items stand in lists.

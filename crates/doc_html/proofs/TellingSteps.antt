@@ -1,9 +1,11 @@
 -- Blocks as they are written, step by step.
-use Rattle.std.proofs.Common.{◌≡◌, ℕ, ◌<◌, Bool, true, false, List, [], ◌∷◌, ◌++◌, ap, sym, subst, append_assoc}
+use Rattle.std.proofs.Common.{◌≡◌, ◌==◌, ℕ, ◌<◌, Bool, true, false, List, [], ◌∷◌, ◌++◌, length, ap, sym, subst, append_assoc}
 use Rattle.std.specs.Prelude.{codes, decimal, ◌^◌}
 use Rattle.std.specs.Str.{chars}
+use Rattle.std.proofs.lemmas.List.{nil_from_length}
 use Rattle.std.proofs.lemmas.Str.{chars-IsAscii}
 use Rattle.std.proofs.lemmas.Fmt.{IsAscii-decimal}
+use Rattle.doc_page_parts.proofs.Numbers.{zero_test_true}
 use Rattle.doc_rules.specs.Characters.{Text}
 use Rattle.doc_rules.specs.Escaping.{html_escape}
 use Rattle.doc_rules.specs.Inlines.{Inline}
@@ -20,6 +22,12 @@ three holds a b c d x y z f g h = both holds a c d (x ++ y) z (both holds a b c 
 pub nothing_said : {W : Type 0} (holds : W → Progress → Type 0) (a : W) → Writes holds a a (characters [])
 unfolding characters
 nothing_said holds a = nothing holds a
+
+pub empty_said : {W : Type 0} (holds : W → Progress → Type 0) (a : W) (front : Text) (test : Bool) → test ≡ (length front == 0)
+    → test ≡ true → Writes holds a a (characters front)
+empty_said holds a front test e f =
+    subst (λ (t : Text). Writes holds a a (characters t)) (sym (nil_from_length front (zero_test_true test (length front) e f)))
+    (nothing_said holds a)
 
 -- ---- paragraphs
 

@@ -48,11 +48,7 @@ fn push_tags<'d>(
 
 /// Puts the tags of a block behind these.
 #[cycle(blocks)]
-fn push_block<'d>(
-    tags: &mut Vec<Tag<'d>>,
-    texts: &'d Texts,
-    block: &'d Block,
-) -> Result<(), Memory>
+fn push_block<'d>(tags: &mut Vec<Tag<'d>>, texts: &'d Texts, block: &'d Block) -> Result<(), Memory>
     ensures { (outer : List Entry) (before : Blocks)
         → tags_shown tags.old.items ≡ open_tags outer before →
         OnOk result (tags_shown tags.new.items ≡ open_tags outer (behind block.now before)) }

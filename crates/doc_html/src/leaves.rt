@@ -83,16 +83,27 @@ fn push_paragraph<'d, W: Writer>(
     let marks = reader.marks();
     writer.meet_paragraph(marks)?;
     if tight {
-        markup(writer, front)?;
+        push_front(writer, front)?;
         push_marks(writer, source.heap, marks)?;
         return Ok(());
     }
     writer.new_line()?;
     markup(writer, "<p>")?;
-    markup(writer, front)?;
+    push_front(writer, front)?;
     push_marks(writer, source.heap, marks)?;
     markup(writer, "</p>\n")?;
     Ok(())
+}
+
+/// Writes what stands before a paragraph's text, if anything does.
+fn push_front<W: Writer>(writer: &mut W, front: &str) -> Result<(), Memory>
+    requires { is_ascii front.now ≡ true }
+    ensures { OnOk result (Writes W.holds writer.old writer.new (characters front.now)) }
+{
+    if front.is_empty() {
+        return Ok(());
+    }
+    markup(writer, front)
 }
 
 /// Writes a heading.

@@ -6,7 +6,7 @@ ghost use Rattle.doc_rules.specs.PlainTexts.{text_in};
 ghost use Rattle.doc_rules.specs.Tables.{cells_of_line, text_lines};
 ghost use Rattle.doc_lines.specs.RestSteps.{rest_of};
 ghost use Rattle.doc_refs_parts.specs.Targets.{targets_of};
-ghost use Rattle.doc_blocks_starts.specs.Tables.{columns_said};
+ghost use Rattle.doc_blocks_starts.specs.Tables.{columns_said, lines_in};
 ghost use Rattle.doc_blocks_starts.specs.Tags.{table_shown};
 ghost use Rattle.doc_tables.specs.CellSteps.{cell_text, cells_left, has_escaped_pipe};
 ghost use Rattle.doc_html.specs.InlineSteps.{is_ascii};

@@ -157,6 +157,27 @@ pub agree_in_table : (table : List ℕ) (b : ℕ) → b < 256 → agree_below (�
     → not (nat_eq (get_or table b 0) 46) ≡ begins_always b
 agree_in_table table b less h = agree_at (λ k. not (nat_eq (get_or table k 0) 46)) begins_always 256 h b less
 
+pub all_in_table : (table : List ℕ) (b : ℕ) → b < 256
+    → agree_below (λ k. not (nat_eq (get_or table k 0) 46)) (λ k. begins_always k || begins_by true true k) 256 ≡ true
+    → not (nat_eq (get_or table b 0) 46) ≡ (begins_always b || begins_by true true b)
+all_in_table table b less h =
+    agree_at (λ k. not (nat_eq (get_or table k 0) 46)) (λ k. begins_always k || begins_by true true k) 256 h b less
+
+-- what begins nothing with all extensions begins nothing with some
+pub none_begins : (strikes links : Bool) (c : ℕ) → (begins_always c || begins_by true true c) ≡ false
+    → (begins_always c || begins_by strikes links c) ≡ false
+none_begins strikes links c e = by (begins_always c) (c == 126) (one_of (codes "whHfF") c) strikes links e
+  where
+    by : (always tilde letter s l : Bool) → (always || ((true && tilde) || (true && letter))) ≡ false
+        → (always || ((s && tilde) || (l && letter))) ≡ false
+    by true tilde letter s l e = absurd cc
+    by false true letter s l e = absurd cc
+    by false false true s l e = absurd cc
+    by false false false true true e = refl
+    by false false false true false e = refl
+    by false false false false true e = refl
+    by false false false false false e = refl
+
 -- by what the rules tell
 pub begins_told : (rules : Rules) (strikes links : Bool) → strikes ≡ rules.strikethrough → links ≡ rules.bare_links → (c : ℕ)
     → (begins_always c || begins_by strikes links c) ≡ begins_something rules c

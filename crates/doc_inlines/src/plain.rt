@@ -131,10 +131,31 @@ fn begins_always(byte: u8) -> bool
     BEGINNINGS[byte as usize] != b'.'
 }
 
+// The same where what begins something in an extension alone stands at its own place, too.
+static ALL_BEGINNINGS: [u8; 256] = *b"\
+    ..........\n.....................\
+    .!\"...&...*.................<.>.\
+    ......F.H..................[\\]._\
+    `.....f.h..............w......~.\
+    ................................\
+    ................................\
+    ................................\
+    ................................";
+
+/// Whether a character begins something without any extension, or in one.
+fn may_begin(byte: u8) -> bool
+    ensures { result ≡ (begins_always byte || begins_by true true byte) }
+{
+    ALL_BEGINNINGS[byte as usize] != b'.'
+}
+
 /// Whether it does so, or in an extension, where strikethrough and bare links are read or not.
 fn begins_also(strikes: bool, links: bool, byte: u8) -> bool
     ensures { result ≡ (begins_always byte || begins_by strikes links byte) }
 {
+    if !may_begin(byte) {
+        return false;
+    }
     begins_always(byte)
         || (strikes && byte == b'~' || links && matches!(byte, b'w' | b'h' | b'H' | b'f' | b'F'))
 }

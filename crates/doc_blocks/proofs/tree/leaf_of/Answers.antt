@@ -53,13 +53,14 @@ returns-in_ok-rows_of-in-Table c =
     let header = c.in_ok-copy_of-in-Table.field-0 in
     let delimiters = c.in_ok-copy_of-in-Table-2.field-0 in
     let rows = c.in_ok-rows_of-in-Table.field-0 in
+    let lines = c.in-Table.lines.now in
     λ before. behind_table header delimiters rows before
     ∙ (ap (λ (t : List ℕ). before ▹ TableBlock (source_of (chars t) (chars delimiters) (lines_in (option_map chars rows))))
     c.in_ok-copy_of-in-Table.ensures
-    ∙ (ap (λ (t : List ℕ). before ▹ TableBlock (source_of (chars c.in-Table.lines.now.header.now) (chars t) (lines_in (option_map chars rows))))
+    ∙ (ap (λ (t : List ℕ). before ▹ TableBlock (source_of (chars lines.header.now) (chars t) (lines_in (option_map chars rows))))
     c.in_ok-copy_of-in-Table-2.ensures
     ∙ (ap (λ (t : Option (List ℕ)). before
-    ▹ TableBlock (source_of (chars c.in-Table.lines.now.header.now) (chars c.in-Table.lines.now.delimiters.now) (lines_in t))) c.in_ok-rows_of-in-Table.ensures
+    ▹ TableBlock (source_of (chars lines.header.now) (chars lines.delimiters.now) (lines_in t))) c.in_ok-rows_of-in-Table.ensures
     ∙ sym (ap (λ (l : LeafBlock). before ▹ leaf_shown l) c.in-Table.is))))
 
 pub returns-in_ok-copy_of-in-Task : goal.returns-in_ok-copy_of-in-Task
