@@ -162,7 +162,7 @@ fn longest(takes_puts: bool) -> usize
 }
 
 /// One step of a connection, and the line of its edit right behind it.
-pub(crate) fn step_and_keep<R: Renderer + Drop>(
+pub fn step_and_keep<R: Renderer + Drop>(
     hub: &mut Hub<R>,
     id: ConnId,
     edits: &mut EditLines,

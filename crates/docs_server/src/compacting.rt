@@ -4,23 +4,21 @@ use crate::arguments::Compact;
 use crate::bounded::{Bounded, read_bounded};
 use crate::files::{Pages, Site};
 use crate::held::hold;
-use crate::journal::{make_reserve, restore_journal};
 use crate::listen_fault::ListenFault;
 use crate::moving::make_moves;
 use crate::site_store::site_store;
 use crate::status::status_of;
+use crate::system_place::SystemPlace;
 use crate::told_folders::tell_passed;
 use crate::torn::TornFile;
 use doc_page_parts::heap::Heap;
 use doc_page_parts::list::List;
+use doc_server_compacting::compacting::compact_file;
 use doc_server_config::readme::Move;
 use doc_server_journal::clock::seconds_of;
-use doc_server_journal::file_device::FileDevice;
-use doc_server_journal::names::Replacement;
 use doc_server_journal::random::new_identity;
-use doc_server_restore::compact::compact;
 use doc_store::store::Store;
-use std::fs::{File, remove_file};
+use std::fs::File;
 use std::rt::{Clock, Files};
 
 /// Runs `compact`, and answers the status to end with.
@@ -96,57 +94,23 @@ fn compact_held<P: AllocGlobal + Clock + Eprint + Files<File = File>>(
     command: &Compact<'_>,
 ) -> Result<(), ListenFault> {
     let _held = hold(rt, heap, command.config)?;
-    compact_file(rt, heap, command.journal, config, site)
+    compact_named(rt, heap, command.journal, config, site)
 }
 
 /// The same of the journal of this name, whose edits are made on a site that is the configuration's.
-fn compact_file<P: AllocGlobal + Clock + Eprint + Files<File = File>>(
+fn compact_named<P: AllocGlobal + Clock + Eprint + Files<File = File>>(
     rt: &P,
     heap: Heap,
     name: &str,
     config: &Store,
     site: &mut Store,
 ) -> Result<(), ListenFault> {
-    let device = FileDevice::open(rt, name)?;
+    let mut place = SystemPlace::of(rt, heap, name);
     let mut torn = TornFile { rt, heap, name };
-    let device = restore_journal(heap, device, &mut torn, site)?;
-    replace(rt, heap, name, &device, config, site)
-}
-
-/// A journal of the edits that lead from the configuration's site to another takes the place of an open one. Where that fails the file
-/// beside it goes.
-fn replace<P: AllocGlobal + Clock + Files<File = File>>(
-    rt: &P,
-    heap: Heap,
-    name: &str,
-    old: &FileDevice,
-    config: &Store,
-    site: &Store,
-) -> Result<(), ListenFault> {
-    let place = Replacement::of(rt, heap, name)?;
-    match write_beside(rt, heap, &place, old, config, site) {
-        Ok(()) => Ok(()),
-        Err(fault) => {
-            let _ = remove_file(rt, place.new_name());
-            Err(fault)
-        }
-    }
-}
-
-/// Writes the new journal into a file beside the old one, which then takes its name. All of it is on the disk before that, with its
-/// reserve, and both files are locked until it has the name.
-fn write_beside<P: AllocGlobal + Clock + Files<File = File>>(
-    rt: &P,
-    heap: Heap,
-    place: &Replacement,
-    old: &FileDevice,
-    config: &Store,
-    site: &Store,
-) -> Result<(), ListenFault> {
-    let device = old.make_like(rt, place.new_name())?;
     let identity = new_identity(rt)?;
-    let mut written = compact(heap, config, site, device, &identity, seconds_of(rt))?;
-    make_reserve(&mut written)?;
-    place.take_name(rt)?;
+    let seconds = seconds_of(rt);
+    compact_file(
+        heap, &mut place, &mut torn, config, site, &identity, seconds,
+    )?;
     Ok(())
 }

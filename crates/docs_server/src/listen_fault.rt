@@ -2,6 +2,7 @@
 
 use doc_page_parts::failure::Memory;
 use doc_page_parts::path::Path;
+use doc_server_compacting::fault::CompactingFault;
 use doc_server_config::bad_file::BadFile;
 use doc_server_config::browsing::BrowseError;
 use doc_server_config::listening::ListeningError;
@@ -50,6 +51,9 @@ pub enum ListenFault {
     /// The new journal isn't written.
     #[error("{0}")]
     Compact(CompactFault),
+    /// The configuration's site has too few stamps left for the edits of the new journal.
+    #[error("no stamps left for the edits")]
+    NoStamps,
 }
 
 impl From<Fault> for ListenFault {
@@ -112,14 +116,17 @@ impl From<PollFault> for ListenFault {
     }
 }
 
-impl From<CompactFault> for ListenFault {
-    ghost use Rattle.std.specs.Prelude.{◌≡◌};
-    ghost use Rattle.docs_server.specs.declared.listen_fault.ListenFault.TheVariants as faults;
-
-    ghost from_gives = { λ fault stop. stop ≡ faults.Compact fault };
-
-    fn from(fault: CompactFault) -> ListenFault {
-        ListenFault::Compact(fault)
+impl From<CompactingFault> for ListenFault {
+    fn from(fault: CompactingFault) -> ListenFault {
+        match fault {
+            CompactingFault::File(fault) => ListenFault::File(fault),
+            CompactingFault::Journal(fault) => ListenFault::Journal(fault),
+            CompactingFault::Restore(fault) => ListenFault::Restore(fault),
+            CompactingFault::Compact(fault) => ListenFault::Compact(fault),
+            CompactingFault::NoRoom => ListenFault::NoRoom,
+            CompactingFault::NoStamps => ListenFault::NoStamps,
+            CompactingFault::Memory => ListenFault::Command(Fault::Memory),
+        }
     }
 }
 

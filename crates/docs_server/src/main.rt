@@ -21,6 +21,7 @@ mod serving;
 mod site_store;
 mod sites;
 mod status;
+mod system_place;
 mod told_folders;
 mod torn;
 mod unanswered;

@@ -1,0 +1,2 @@
+mod EditSizes
+mod Written

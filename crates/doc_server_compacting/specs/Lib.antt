@@ -1,0 +1,2 @@
+pub mod Compactings
+pub mod MemoryPlaces

@@ -1,0 +1,2 @@
+pub mod MemorySteps
+pub mod Passing

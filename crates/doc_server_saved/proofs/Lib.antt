@@ -1,0 +1,7 @@
+mod Crashes
+mod QuietEvents
+mod Records
+mod Rooms
+mod Saving
+mod Settling
+mod Texts

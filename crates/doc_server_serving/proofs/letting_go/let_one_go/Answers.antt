@@ -1,0 +1,23 @@
+use Rattle.std.proofs.Common.{refl, sym, ap, subst, ◌∙◌, ◌∷◌, []}
+use Rattle.doc_hub_events.specs.declared.event.ConnId.{ConnId}
+use Rattle.doc_server_serving.proofs.LeavingSteps.{leaves, leaves_nobody, woken_left}
+use Rattle.doc_server_serving.proofs.letting_go.let_one_go.Goals as goal
+
+pub returns-then-not-has-clause-turns : goal.returns-then-not-has-clause-turns
+returns-then-not-has-clause-turns g c =
+    leaves_nobody (g.R.Renderer.page c.args.saved.now.hub.0) c.args.saved.now.hub.1 (c.args.id ∷ []) (g.N.Network.came c.args.net.now)
+    (g.N.Network.came c.args.net.now) (g.N.Network.gone c.args.net.now) (g.N.Network.gone c.args.net.now) c.args.peers.now (λ k. refl)
+    (λ k. refl)
+
+pub returns-clause-turns : goal.returns-clause-turns
+returns-clause-turns g c =
+    let id : ConnId = record { 0 = c.args.id } in
+    leaves (g.R.Renderer.page c.args.saved.now.hub.0) c.args.saved.now.hub.1 c.disconnect.new.self.hub.1 id _
+    (g.N.Network.came c.args.net.now) (g.N.Network.came c.close.new.self) (g.N.Network.gone c.args.net.now)
+    (g.N.Network.gone c.close.new.self) c.args.peers.now c.remove.new.self (sym c.has.ensures ∙ c.if-not-has.false)
+    c.remove.ensures c.disconnect.ensures.world c.close.ensures.came c.close.ensures.gone
+
+pub returns-clause-woken : goal.returns-clause-woken
+returns-clause-woken g c =
+    woken_left (g.N.Network.wakes c.args.net.now) (g.N.Network.wakes c.close.new.self) c.args.peers.now c.remove.new.self c.args.id
+    c.remove.ensures c.close.ensures.wakes

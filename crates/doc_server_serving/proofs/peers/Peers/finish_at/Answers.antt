@@ -1,0 +1,31 @@
+use Rattle.std.proofs.Common.{◌∙◌, ap, sym, refl}
+use Rattle.std.specs.FinMap as map
+use Rattle.std.proofs.lemmas.Cmp.{nat_cmp_total}
+use Rattle.std.proofs.lemmas.Map.Lookups.{exact_unsigned}
+use Rattle.doc_page_parts.proofs.Maps.{looked_up, inserted}
+use Rattle.doc_server_serving.proofs.Tables.{woken_at, lingers_at}
+use Rattle.doc_server_serving.proofs.peers.Peers.finish_at.Goals as goal
+
+pub returns-clause-lingers : goal.returns-clause-lingers
+returns-clause-lingers g c =
+    let es = c.self.inside.clients.entries in
+    let h = c.in-Some.ensures.value in
+    let k = (c.get_mut.follows.holds c.finish.new.self).3 in
+    lingers_at (g.N.Network.came c.args.net.now) (g.N.Network.came c.finish.new.net) c.args.self.now _
+    c.args.id c.in-Some.client.now c.finish.new.self
+    (ap (λ m. map.get m c.args.id) (sym c.self.view_is) ∙ sym (looked_up nat_cmp_total exact_unsigned es c.args.id) ∙ sym h)
+    (inserted nat_cmp_total exact_unsigned es (c.get_mut.follows.lender c.finish.new.self).entries c.args.id c.finish.new.self
+    (k (rw (← h) refl)).0 ∙ ap (λ m. map.insert m c.args.id c.finish.new.self) c.self.view_is)
+    c.finish.ensures.lingers c.finish.ensures.others
+
+pub returns-clause-woken : goal.returns-clause-woken
+returns-clause-woken g c =
+    let es = c.self.inside.clients.entries in
+    let h = c.in-Some.ensures.value in
+    let k = (c.get_mut.follows.holds c.finish.new.self).3 in
+    woken_at (g.N.Network.wakes c.args.net.now) (g.N.Network.wakes c.finish.new.net) c.args.self.now _ c.args.id c.in-Some.client.now
+    c.finish.new.self
+    (ap (λ m. map.get m c.args.id) (sym c.self.view_is) ∙ sym (looked_up nat_cmp_total exact_unsigned es c.args.id) ∙ sym h)
+    (inserted nat_cmp_total exact_unsigned es (c.get_mut.follows.lender c.finish.new.self).entries c.args.id c.finish.new.self
+    (k (rw (← h) refl)).0 ∙ ap (λ m. map.insert m c.args.id c.finish.new.self) c.self.view_is)
+    c.finish.ensures.woken c.finish.ensures.wakes

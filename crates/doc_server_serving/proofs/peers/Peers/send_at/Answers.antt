@@ -1,0 +1,31 @@
+use Rattle.std.proofs.Common.{◌∙◌, ap, sym, refl}
+use Rattle.std.specs.FinMap as map
+use Rattle.std.proofs.lemmas.Cmp.{nat_cmp_total}
+use Rattle.std.proofs.lemmas.Map.Lookups.{exact_unsigned}
+use Rattle.doc_page_parts.proofs.Maps.{looked_up, inserted}
+use Rattle.doc_server_serving.proofs.Tables.{woken_at, gives_at}
+use Rattle.doc_server_serving.proofs.peers.Peers.send_at.Goals as goal
+
+pub returns-clause-gives : goal.returns-clause-gives
+returns-clause-gives g c =
+    let es = c.self.inside.clients.entries in
+    let h = c.in-Some.ensures.value in
+    let k = (c.get_mut.follows.holds c.send.new.self).3 in
+    gives_at (g.N.Network.gone c.args.net.now) (g.N.Network.gone c.send.new.net) (g.N.Network.has_ended c.send.new.net) c.args.self.now _
+    c.args.id c.in-Some.client.now c.send.new.self
+    (ap (λ m. map.get m c.args.id) (sym c.self.view_is) ∙ sym (looked_up nat_cmp_total exact_unsigned es c.args.id) ∙ sym h)
+    (inserted nat_cmp_total exact_unsigned es (c.get_mut.follows.lender c.send.new.self).entries c.args.id c.send.new.self
+    (k (rw (← h) refl)).0 ∙ ap (λ m. map.insert m c.args.id c.send.new.self) c.self.view_is)
+    c.send.ensures.gives c.send.ensures.why c.send.ensures.others
+
+pub returns-clause-woken : goal.returns-clause-woken
+returns-clause-woken g c =
+    let es = c.self.inside.clients.entries in
+    let h = c.in-Some.ensures.value in
+    let k = (c.get_mut.follows.holds c.send.new.self).3 in
+    woken_at (g.N.Network.wakes c.args.net.now) (g.N.Network.wakes c.send.new.net) c.args.self.now _ c.args.id c.in-Some.client.now
+    c.send.new.self
+    (ap (λ m. map.get m c.args.id) (sym c.self.view_is) ∙ sym (looked_up nat_cmp_total exact_unsigned es c.args.id) ∙ sym h)
+    (inserted nat_cmp_total exact_unsigned es (c.get_mut.follows.lender c.send.new.self).entries c.args.id c.send.new.self
+    (k (rw (← h) refl)).0 ∙ ap (λ m. map.insert m c.args.id c.send.new.self) c.self.view_is)
+    c.send.ensures.woken c.send.ensures.wakes

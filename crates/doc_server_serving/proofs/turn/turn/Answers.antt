@@ -1,0 +1,37 @@
+use Rattle.std.proofs.Common.{ap}
+use Rattle.doc_server_serving.proofs.Tables.{gives_fronts}
+use Rattle.doc_server_serving.proofs.TurnSteps.{begun_sharing, ended_sharing, on_err}
+use Rattle.doc_server_serving.proofs.turn.turn.Goals as goal
+
+pub returns-in_err-settle-clause-turns : goal.returns-in_err-settle-clause-turns
+returns-in_err-settle-clause-turns g c =
+    let came = g.N.Network.came in let gone = g.N.Network.gone in
+    begun_sharing (g.R.Renderer.page c.args.saved.now.hub.0) c.args.saved.now.hub.1 c.take_in_all.new.saved.hub.1 c.settle.new.self.hub.1
+    c.args.ready.now (came c.args.net.now) (came c.send_settled.new.net) (came c.take_in_all.new.net) (gone c.args.net.now)
+    (gone c.send_settled.new.net) (gone c.take_in_all.new.net) (g.N.Network.has_ended c.send_settled.new.net)
+    (g.N.Network.has_ended c.take_in_all.new.net) c.args.peers.now c.send_settled.new.peers c.take_in_all.new.self c.args.share.now
+    c.take_in_all.new.share (ap (λ h. h.1) c.settle.ensures.hub) c.send_settled.ensures.gives c.send_settled.ensures.came
+    c.take_in_all.ensures.serves c.take_in_all.ensures.gone
+
+pub returns-in_err-settle-clause-waits : goal.returns-in_err-settle-clause-waits
+returns-in_err-settle-clause-waits g c =
+    on_err _ c.from_residual.result
+    (gives_fronts (g.N.Network.gone c.args.net.now) (g.N.Network.gone c.send_settled.new.net) (g.N.Network.gone c.take_in_all.new.net)
+    (g.N.Network.has_ended c.send_settled.new.net) c.args.peers.now c.send_settled.new.peers c.send_settled.ensures.gives
+    c.take_in_all.ensures.gone)
+
+pub returns-clause-turns : goal.returns-clause-turns
+returns-clause-turns g c =
+    let came = g.N.Network.came in let gone = g.N.Network.gone in
+    let begun = begun_sharing (g.R.Renderer.page c.args.saved.now.hub.0) c.args.saved.now.hub.1 c.take_in_all.new.saved.hub.1
+    c.settle.new.self.hub.1 c.args.ready.now (came c.args.net.now) (came c.send_settled.new.net) (came c.take_in_all.new.net)
+    (gone c.args.net.now) (gone c.send_settled.new.net) (gone c.take_in_all.new.net) (g.N.Network.has_ended c.send_settled.new.net)
+    (g.N.Network.has_ended c.take_in_all.new.net) c.args.peers.now c.send_settled.new.peers c.take_in_all.new.self c.args.share.now
+    c.take_in_all.new.share (ap (λ h. h.1) c.settle.ensures.hub) c.send_settled.ensures.gives c.send_settled.ensures.came
+    c.take_in_all.ensures.serves c.take_in_all.ensures.gone in
+    ended_sharing (g.R.Renderer.page c.args.saved.now.hub.0) c.args.saved.now.hub.1 c.settle.new.self.hub.1 c.args.ready.now
+    (came c.args.net.now) (came c.take_in_all.new.net) (came c.send_settled-2.new.net) (came c.finish_all.new.net)
+    (gone c.args.net.now) (gone c.take_in_all.new.net) (gone c.send_settled-2.new.net) (gone c.finish_all.new.net)
+    (g.N.Network.has_ended c.send_settled-2.new.net) c.args.peers.now c.take_in_all.new.self c.send_settled-2.new.peers
+    c.finish_all.new.self c.args.share.now c.take_in_all.new.share begun c.send_settled-2.ensures.gives c.send_settled-2.ensures.came
+    c.finish_all.ensures.lingers c.finish_all.ensures.gone

@@ -1,0 +1,6 @@
+pub mod Replies
+pub mod Servings
+pub mod Sharing
+pub mod Silences
+pub mod Turns
+pub mod Wirings

@@ -1,0 +1,13 @@
+//! Serving peers over a network, whose connections are known by their numbers: each turn takes in what came, has a hub answer it, and
+//! hands the replies over once all edits are on the device.
+#![tactic(auto)]
+
+pub mod client;
+pub mod letting_go;
+pub mod peers;
+mod sending;
+mod silence;
+mod stage;
+pub mod taking;
+pub mod telling;
+pub mod turn;

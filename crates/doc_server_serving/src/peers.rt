@@ -1,0 +1,264 @@
+//! The clients by the numbers of their connections.
+
+ghost use Rattle.std.specs.Prelude.{◌≡◌, ◌∷◌, ℕ, [], length, is_some, OnErr, OnOk};
+ghost use Rattle.std.specs.FinMap as map;
+ghost use Rattle.doc_server_network.specs.Networks.{Rests, Stays};
+ghost use Rattle.doc_server_saved.specs.Saved.{IsReady, StaysSaved};
+ghost use Rattle.doc_server_serving.specs.Servings.{ServesAll};
+ghost use Rattle.doc_server_serving.specs.Sharing.{SharesTurn};
+ghost use Rattle.doc_server_serving.specs.Wirings.{AreWoken, Gives, LingerAll, SweptAll, WokeAt};
+
+use crate::client::Client;
+use doc_page::renderer::Renderer;
+use doc_page_parts::heap::{BTreeMap, Heap, Vec};
+use doc_server_journal::device::Device;
+use doc_server_listen::share::Share;
+use doc_server_network::network::Network;
+use doc_server_saved::permit::Permit;
+use doc_server_saved::saved_hub::SavedHub;
+use std::alloc::AllocError;
+use std::marker::Model;
+
+/// The clients by the numbers of their connections. Contracts see a map.
+#[derive(Drop)]
+pub struct Peers {
+    clients: BTreeMap<u64, Client>,
+}
+
+impl Model for Peers {
+    ghost use Rattle.std.specs.Coded.{coded_ℕ};
+    ghost use Rattle.std.specs.FinMap as map;
+    ghost use Rattle.std.specs.Ordering.{nat_cmp};
+    ghost use Rattle.doc_server_serving.specs.contracts.client.Client as one;
+    ghost use Rattle.doc_server_serving.specs.Wirings.{Peer};
+
+    ghost Value = { map.FinMap nat_cmp Peer };
+
+    ghost coded = { map.code coded_ℕ one.the_row.coded };
+
+    ghost view = { λ p. map.from_entries p.clients.entries };
+}
+
+impl Peers {
+    /// Nobody yet.
+    pub fn new(heap: Heap) -> Peers
+        ensures { result ≡ map.empty }
+    {
+        Peers {
+            clients: BTreeMap::new(heap),
+        }
+    }
+
+    /// How many they are.
+    pub fn count(&self) -> usize
+        ensures { result ≡ map.len self.now }
+    {
+        self.clients.len()
+    }
+
+    /// Takes a client in under this number.
+    pub fn insert(&mut self, id: u64, client: Client) -> Result<(), AllocError>
+        ensures taken { OnOk result (self.new ≡ map.insert self.old id client) }
+        ensures refused { OnErr result (self.new ≡ self.old) }
+    {
+        self.clients.insert(id, client)?;
+        Ok(())
+    }
+
+    /// Whether a client stands under this number.
+    pub fn has(&self, id: u64) -> bool
+        ensures { result ≡ is_some (map.get self.now id) }
+    {
+        self.clients.contains_key(&id)
+    }
+
+    /// Lets the client of this number go, where there is one.
+    pub fn remove(&mut self, id: u64)
+        ensures { self.new ≡ map.remove self.old id }
+    {
+        let _ = self.clients.remove(&id);
+    }
+
+    /// The network has told of the client of this number, where there is one, and whether its peer is gone.
+    pub fn wake(&mut self, id: u64, is_gone: bool)
+        ensures { WokeAt id is_gone self.old self.new (map.get self.old id) }
+    {
+        let Some(client) = self.clients.get_mut(&id) else {
+            return;
+        };
+        client.wake(is_gone);
+    }
+
+    /// Hands over what is pending for the clients of these numbers.
+    pub fn send_all<N: Network>(&mut self, ready: &[u64], net: &mut N, permit: &Permit<'_>)
+        ensures gives { Gives (N.gone net.old) (N.gone net.new) (N.has_ended net.new) self.old self.new }
+        ensures came { Rests (N.came net.old) (N.came net.new) }
+        ensures woken { AreWoken (N.wakes net.old) self.old → AreWoken (N.wakes net.new) self.new }
+        ensures ended { Stays (N.has_ended net.old) (N.has_ended net.new) }
+        ensures free { Stays (N.is_free net.old) (N.is_free net.new) }
+    {
+        'numbers: for id in ready {
+            self.send_at(*id, net, permit);
+        }
+    }
+
+    /// Hands over what is pending for the client of this number, where there is one.
+    fn send_at<N: Network>(&mut self, id: u64, net: &mut N, permit: &Permit<'_>)
+        ensures gives { Gives (N.gone net.old) (N.gone net.new) (N.has_ended net.new) self.old self.new }
+        ensures came { Rests (N.came net.old) (N.came net.new) }
+        ensures woken { AreWoken (N.wakes net.old) self.old → AreWoken (N.wakes net.new) self.new }
+        ensures ended { Stays (N.has_ended net.old) (N.has_ended net.new) }
+        ensures free { Stays (N.is_free net.old) (N.is_free net.new) }
+    {
+        let Some(client) = self.clients.get_mut(&id) else {
+            return;
+        };
+        client.send(id, net, permit);
+    }
+
+    /// Reads and steps the clients of these numbers. Nothing is handed over. The share says what the steps may cost, and is left what they
+    /// did.
+    pub fn take_in_all<N: Network, D: Device, R: Renderer + Drop>(
+        &mut self,
+        ready: &[u64],
+        net: &mut N,
+        saved: &mut SavedHub<D, R>,
+        piece: &mut [u8],
+        share: &mut Share,
+    )
+        ensures serves { (s : ServesAll (R.page saved.old.hub.0) saved.old.hub.1 saved.new.hub.1 ready.now
+            (N.came net.old) (N.came net.new) (N.has_ended net.new) self.old self.new)
+            × SharesTurn ready.now s.run share.old share.new }
+        ensures gone { Rests (N.gone net.old) (N.gone net.new) }
+        ensures woken { AreWoken (N.wakes net.old) self.old → AreWoken (N.wakes net.new) self.new }
+        ensures ended { Stays (N.has_ended net.old) (N.has_ended net.new) }
+        ensures free { Stays (N.is_free net.old) (N.is_free net.new) }
+        ensures same { R.page saved.new.hub.0 ≡ R.page saved.old.hub.0 }
+        ensures saved { StaysSaved D.seen D.may_leave D.failed D.stale saved.old saved.new }
+        ensures ready { IsReady D.seen D.may_leave D.failed D.stale saved.old
+            → IsReady D.seen D.may_leave D.failed D.stale saved.new }
+        ensures journal { saved.new.journal ≡ saved.old.journal }
+        ensures room { length piece.new ≡ length piece.old }
+    {
+        'numbers: for id in ready {
+            self.take_in_at(*id, net, saved, piece, share);
+        }
+    }
+
+    /// Reads and steps the client of this number, where there is one.
+    fn take_in_at<N: Network, D: Device, R: Renderer + Drop>(
+        &mut self,
+        id: u64,
+        net: &mut N,
+        saved: &mut SavedHub<D, R>,
+        piece: &mut [u8],
+        share: &mut Share,
+    )
+        ensures serves { (s : ServesAll (R.page saved.old.hub.0) saved.old.hub.1 saved.new.hub.1 (id ∷ [])
+            (N.came net.old) (N.came net.new) (N.has_ended net.new) self.old self.new)
+            × SharesTurn (id ∷ []) s.run share.old share.new }
+        ensures gone { Rests (N.gone net.old) (N.gone net.new) }
+        ensures woken { AreWoken (N.wakes net.old) self.old → AreWoken (N.wakes net.new) self.new }
+        ensures ended { Stays (N.has_ended net.old) (N.has_ended net.new) }
+        ensures free { Stays (N.is_free net.old) (N.is_free net.new) }
+        ensures same { R.page saved.new.hub.0 ≡ R.page saved.old.hub.0 }
+        ensures saved { StaysSaved D.seen D.may_leave D.failed D.stale saved.old saved.new }
+        ensures ready { IsReady D.seen D.may_leave D.failed D.stale saved.old
+            → IsReady D.seen D.may_leave D.failed D.stale saved.new }
+        ensures journal { saved.new.journal ≡ saved.old.journal }
+        ensures room { length piece.new ≡ length piece.old }
+    {
+        share.begin();
+        let Some(client) = self.clients.get_mut(&id) else {
+            return;
+        };
+        client.take_in(id, net, saved, piece, share);
+    }
+
+    /// Ends the part of the clients of these numbers in a turn.
+    pub fn finish_all<N: Network>(&mut self, ready: &[u64], net: &mut N, piece: &mut [u8])
+        ensures lingers { LingerAll (N.came net.old) (N.came net.new) self.old self.new }
+        ensures gone { Rests (N.gone net.old) (N.gone net.new) }
+        ensures woken { AreWoken (N.wakes net.old) self.old → AreWoken (N.wakes net.new) self.new }
+        ensures ended { Stays (N.has_ended net.old) (N.has_ended net.new) }
+        ensures free { Stays (N.is_free net.old) (N.is_free net.new) }
+        ensures room { length piece.new ≡ length piece.old }
+    {
+        'numbers: for id in ready {
+            self.finish_at(*id, net, piece);
+        }
+    }
+
+    /// Ends the part of the client of this number, where there is one.
+    fn finish_at<N: Network>(&mut self, id: u64, net: &mut N, piece: &mut [u8])
+        ensures lingers { LingerAll (N.came net.old) (N.came net.new) self.old self.new }
+        ensures gone { Rests (N.gone net.old) (N.gone net.new) }
+        ensures woken { AreWoken (N.wakes net.old) self.old → AreWoken (N.wakes net.new) self.new }
+        ensures ended { Stays (N.has_ended net.old) (N.has_ended net.new) }
+        ensures free { Stays (N.is_free net.old) (N.is_free net.new) }
+        ensures room { length piece.new ≡ length piece.old }
+    {
+        let Some(client) = self.clients.get_mut(&id) else {
+            return;
+        };
+        client.finish(id, net, piece);
+    }
+
+    /// A sweep of the clients of these numbers: those that were silent for so many seconds are to be let go.
+    pub fn sweep(&mut self, numbers: &[u64], idle_seconds: u64)
+        ensures swept { SweptAll self.old self.new }
+    {
+        'numbers: for id in numbers {
+            self.sweep_at(*id, idle_seconds);
+        }
+    }
+
+    /// A sweep of the client of this number, where there is one.
+    fn sweep_at(&mut self, id: u64, idle_seconds: u64)
+        ensures swept { SweptAll self.old self.new }
+    {
+        let Some(client) = self.clients.get_mut(&id) else {
+            return;
+        };
+        client.sweep(idle_seconds);
+    }
+
+    /// Adds the numbers of all.
+    pub fn collect_all(&self, numbers: &mut Vec<u64>) -> Result<(), AllocError> {
+        'clients: for (id, _) in &self.clients {
+            numbers.push(*id)?;
+        }
+        Ok(())
+    }
+
+    /// Adds the numbers of those that take part in the turn that begins: first those from `first` on, and then the others.
+    pub fn collect(&self, first: u64, ready: &mut Vec<u64>) -> Result<(), AllocError> {
+        self.collect_some(first, true, ready)?;
+        self.collect_some(first, false, ready)
+    }
+
+    /// Adds the numbers of those that take part, from `first` on or below it.
+    fn collect_some(
+        &self,
+        first: u64,
+        above: bool,
+        ready: &mut Vec<u64>,
+    ) -> Result<(), AllocError> {
+        'clients: for (id, client) in &self.clients {
+            if (*id >= first) == above && client.takes_part() {
+                ready.push(*id)?;
+            }
+        }
+        Ok(())
+    }
+
+    /// Adds the numbers of those that are to be let go.
+    pub fn collect_over(&self, gone: &mut Vec<u64>) -> Result<(), AllocError> {
+        'clients: for (id, client) in &self.clients {
+            if client.is_over() {
+                gone.push(*id)?;
+            }
+        }
+        Ok(())
+    }
+}

@@ -1,0 +1,234 @@
+//! Taking in what a client's peer sends, and having it answered.
+
+ghost use Rattle.std.specs.Prelude.{◌≡◌, ◌≤◌, ◌<◌, ◌+◌, [], true, false, length, IfSome};
+ghost use Rattle.doc_hub.specs.Runs.{Happens};
+ghost use Rattle.doc_hub.specs.Worlds.{disconnected};
+ghost use Rattle.doc_hub_events.specs.Events.{disconnect_on};
+ghost use Rattle.doc_server_listen.specs.Costs.{CostsAtMost, IsWithin, next_cost};
+ghost use Rattle.doc_server_listen.specs.Edits.{AreQuiet};
+ghost use Rattle.doc_server_network.specs.Networks.{Rests, RestsBut, Stays, StaysBut};
+ghost use Rattle.doc_server_saved.specs.Saved.{IsReady, StaysSaved, may_step};
+ghost use Rattle.doc_server_serving.specs.Replies.{most_pending};
+ghost use Rattle.doc_server_serving.specs.Servings.{Answers, Serves};
+
+use crate::client::Client;
+use crate::stage::Stage;
+use doc_hub::event::{ConnId, Step};
+use doc_hub::refusal::StepError;
+use doc_page::renderer::Renderer;
+use doc_server_journal::device::Device;
+use doc_server_listen::cost::{LIST_COST, PAGE_COST, step_cost};
+use doc_server_listen::share::Share;
+use doc_server_network::came::Came;
+use doc_server_network::network::Network;
+use doc_server_saved::saved_hub::SavedHub;
+
+/// How many steps a turn makes at most, where each costs what a page costs.
+const MOST_STEPS: u32 = LIST_COST;
+
+/// From how many pending bytes on a client takes no further step.
+const MOST_PENDING: usize = 262_144;
+
+impl Client {
+    /// Where nothing is pending, reads once, pushes and steps, as far as the share of the turn goes. The edits of these steps wait to be
+    /// settled, and so do the replies: nothing is handed over.
+    pub fn take_in<N: Network, D: Device, R: Renderer + Drop>(
+        &mut self,
+        id: u64,
+        net: &mut N,
+        saved: &mut SavedHub<D, R>,
+        piece: &mut [u8],
+        share: &mut Share,
+    )
+        ensures serves { (s : Serves (R.page saved.old.hub.0) saved.old.hub.1 saved.new.hub.1 id
+            (N.came net.old id) (N.came net.new id) (N.has_ended net.new id) self.old self.new)
+            × IsWithin s.run share.old share.new }
+        ensures others { RestsBut id (N.came net.old) (N.came net.new) }
+        ensures gone { Rests (N.gone net.old) (N.gone net.new) }
+        ensures woken { (self.old.rests ≡ true → N.wakes net.old id)
+            → self.new.rests ≡ true → N.wakes net.new id }
+        ensures wakes { StaysBut id (N.wakes net.old) (N.wakes net.new) }
+        ensures ended { Stays (N.has_ended net.old) (N.has_ended net.new) }
+        ensures free { Stays (N.is_free net.old) (N.is_free net.new) }
+        ensures same { R.page saved.new.hub.0 ≡ R.page saved.old.hub.0 }
+        ensures saved { StaysSaved D.seen D.may_leave D.failed D.stale saved.old saved.new }
+        ensures ready { IsReady D.seen D.may_leave D.failed D.stale saved.old
+            → IsReady D.seen D.may_leave D.failed D.stale saved.new }
+        ensures journal { saved.new.journal ≡ saved.old.journal }
+        ensures room { length piece.new ≡ length piece.old }
+    {
+        if self.rests || !self.is_open() || self.has_pending() {
+            return;
+        }
+        self.read(id, net, saved, piece);
+        if !self.is_open() {
+            return;
+        }
+        self.answer(id, saved, share);
+    }
+
+    /// Reads once, where a step has said that what was read holds no further request, and pushes what came.
+    fn read<N: Network, D: Device, R: Renderer + Drop>(
+        &mut self,
+        id: u64,
+        net: &mut N,
+        saved: &mut SavedHub<D, R>,
+        piece: &mut [u8],
+    )
+        requires open { self.old.is_open ≡ true }
+        requires awake { self.old.rests ≡ false }
+        ensures serves { (s : Serves (R.page saved.old.hub.0) saved.old.hub.1 saved.new.hub.1 id
+            (N.came net.old id) (N.came net.new id) (N.has_ended net.new id) self.old self.new)
+            × AreQuiet s.run }
+        ensures pending { self.new.pending ≡ self.old.pending }
+        ensures others { RestsBut id (N.came net.old) (N.came net.new) }
+        ensures gone { Rests (N.gone net.old) (N.gone net.new) }
+        ensures woken { self.new.rests ≡ true → N.wakes net.new id }
+        ensures wakes { StaysBut id (N.wakes net.old) (N.wakes net.new) }
+        ensures ended { Stays (N.has_ended net.old) (N.has_ended net.new) }
+        ensures free { Stays (N.is_free net.old) (N.is_free net.new) }
+        ensures same { R.page saved.new.hub.0 ≡ R.page saved.old.hub.0 }
+        ensures saved { StaysSaved D.seen D.may_leave D.failed D.stale saved.old saved.new }
+        ensures ready { IsReady D.seen D.may_leave D.failed D.stale saved.old
+            → IsReady D.seen D.may_leave D.failed D.stale saved.new }
+        ensures journal { saved.new.journal ≡ saved.old.journal }
+        ensures room { length piece.new ≡ length piece.old }
+    {
+        if self.stage != Stage::Reads {
+            return;
+        }
+        match net.read(id, piece) {
+            Ok(Came::Bytes(count)) => {
+                self.silence.hear();
+                match saved.push(ConnId(id), &piece[..count]) {
+                    Ok(()) => self.stage = Stage::Steps,
+                    Err(_) => self.stage = dropped(saved, id, Stage::Ends),
+                }
+            }
+            Ok(Came::Nothing) => self.rests = true,
+            Ok(Came::End) => self.stage = dropped(saved, id, Stage::Ends),
+            Err(_) => self.stage = dropped(saved, id, Stage::Over),
+        }
+    }
+
+    /// Answers the requests that have come, as far as the share of the turn goes, and none once so many bytes are pending, or no edit
+    /// has room.
+    fn answer<D: Device, R: Renderer + Drop>(
+        &mut self,
+        id: u64,
+        saved: &mut SavedHub<D, R>,
+        share: &mut Share,
+    )
+        requires open { self.old.is_open ≡ true }
+        requires none { self.old.pending ≡ [] }
+        ensures answers { (s : Answers (R.page saved.old.hub.0) saved.old.hub.1 saved.new.hub.1 id
+            self.old self.new) × IsWithin s.run share.old share.new }
+        ensures same { R.page saved.new.hub.0 ≡ R.page saved.old.hub.0 }
+        ensures saved { StaysSaved D.seen D.may_leave D.failed D.stale saved.old saved.new }
+        ensures ready { IsReady D.seen D.may_leave D.failed D.stale saved.old
+            → IsReady D.seen D.may_leave D.failed D.stale saved.new }
+        ensures journal { saved.new.journal ≡ saved.old.journal }
+    {
+        let mut held = 0;
+        'steps: for _ in 0..MOST_STEPS {
+            if held >= MOST_PENDING || self.stage == Stage::Reads {
+                return;
+            }
+            if !saved.has_room() {
+                return;
+            }
+            if !share.take(next_cost(saved, id)) {
+                return;
+            }
+            let Some(count) = self.step(id, saved) else {
+                return;
+            };
+            held = count.saturating_add(held);
+        }
+    }
+
+    /// One step, and its reply waits. Where another step may follow, it answers how many bytes the reply has.
+    fn step<D: Device, R: Renderer + Drop>(
+        &mut self,
+        id: u64,
+        saved: &mut SavedHub<D, R>,
+    ) -> Option<usize>
+        requires open { self.old.is_open ≡ true }
+        requires room { length self.old.pending < most_pending }
+        requires further { may_step saved.old ≡ true }
+        ensures answers { (s : Answers (R.page saved.old.hub.0) saved.old.hub.1 saved.new.hub.1 id
+            self.old self.new) × CostsAtMost s.run (next_cost saved.old.hub.1 id) }
+        ensures open { IfSome result (λ _. self.new.is_open ≡ true) }
+        ensures more { IfSome result
+            (λ n. length self.new.pending ≤ n + length self.old.pending) }
+        ensures same { R.page saved.new.hub.0 ≡ R.page saved.old.hub.0 }
+        ensures saved { StaysSaved D.seen D.may_leave D.failed D.stale saved.old saved.new }
+        ensures ready { IsReady D.seen D.may_leave D.failed D.stale saved.old
+            → IsReady D.seen D.may_leave D.failed D.stale saved.new }
+        ensures journal { saved.new.journal ≡ saved.old.journal }
+    {
+        if self.replies.reserve(1).is_err() {
+            self.is_starved = true;
+            return None;
+        }
+        match saved.step(ConnId(id)) {
+            Ok(Step::Sent(reply)) => {
+                self.is_starved = false;
+                let count = reply.get().len();
+                self.replies.push_back_reserved(reply);
+                Some(count)
+            }
+            Ok(Step::Last(reply)) => {
+                self.replies.push_back_reserved(reply);
+                self.stage = dropped(saved, id, Stage::Ends);
+                None
+            }
+            Ok(Step::More) => {
+                self.is_starved = false;
+                self.stage = Stage::Reads;
+                None
+            }
+            Ok(Step::Closed) => {
+                self.stage = dropped(saved, id, Stage::Ends);
+                None
+            }
+            Err(StepError::NoConnection) => {
+                self.stage = dropped(saved, id, Stage::Ends);
+                None
+            }
+            Err(StepError::Memory) => {
+                self.is_starved = true;
+                None
+            }
+        }
+    }
+}
+
+/// What the next step on a connection costs.
+fn next_cost<D: Device, R: Renderer + Drop>(saved: &SavedHub<D, R>, id: u64) -> u32
+    ensures { result ≡ next_cost saved.now.hub.1 id }
+{
+    match saved.unread(ConnId(id)) {
+        Some(unread) => step_cost(unread),
+        None => PAGE_COST,
+    }
+}
+
+/// Drops a connection, by which its client comes to this stage.
+fn dropped<D: Device, R: Renderer + Drop>(
+    saved: &mut SavedHub<D, R>,
+    id: u64,
+    stage: Stage,
+) -> Stage
+    ensures stage { result ≡ stage }
+    ensures world { Happens (R.page saved.old.hub.0) saved.old.hub.1 (disconnect_on (record { 0 = id }))
+        saved.new.hub.1 (disconnected saved.old.hub.1 id).1 }
+    ensures same { R.page saved.new.hub.0 ≡ R.page saved.old.hub.0 }
+    ensures saved { StaysSaved D.seen D.may_leave D.failed D.stale saved.old saved.new }
+    ensures ready { IsReady D.seen D.may_leave D.failed D.stale saved.old
+        → IsReady D.seen D.may_leave D.failed D.stale saved.new }
+    ensures journal { saved.new.journal ≡ saved.old.journal }
+{
+    saved.disconnect(ConnId(id));
+    stage
+}

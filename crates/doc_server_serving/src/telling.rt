@@ -1,0 +1,64 @@
+//! What a network tells of, and the clients that it wakes.
+
+ghost use Rattle.doc_server_network.specs.Networks.{Rests, Stays};
+ghost use Rattle.doc_server_serving.specs.Wirings.{AreWoken, Gives};
+
+use crate::peers::Peers;
+use doc_server_network::network::Network;
+use doc_server_network::told::Told;
+
+/// What a network has told besides of connections.
+#[derive(Clone, Copy)]
+pub struct News {
+    /// Whether a peer may be waiting to be accepted.
+    pub is_knocked: bool,
+    /// Whether standard input has ended.
+    pub input_has_ended: bool,
+}
+
+/// Wakes the clients that the network tells of, until it has told all.
+pub fn wake_told<N: Network>(peers: &mut Peers, net: &mut N) -> News
+    ensures gives { Gives (N.gone net.old) (N.gone net.new) (N.has_ended net.new) peers.old peers.new }
+    ensures came { Rests (N.came net.old) (N.came net.new) }
+    ensures gone { Rests (N.gone net.old) (N.gone net.new) }
+    ensures woken { AreWoken (N.wakes net.old) peers.old → AreWoken (N.wakes net.new) peers.new }
+    ensures ended { Stays (N.has_ended net.old) (N.has_ended net.new) }
+    ensures free { Stays (N.is_free net.old) (N.is_free net.new) }
+{
+    let mut news = News {
+        is_knocked: false,
+        input_has_ended: false,
+    };
+    'told: for _ in 0..u64::MAX {
+        if !wake_one(peers, net, &mut news) {
+            return news;
+        }
+    }
+    news
+}
+
+/// Wakes the client that the network tells of next, or notes what else it tells. False: it has told all.
+fn wake_one<N: Network>(peers: &mut Peers, net: &mut N, news: &mut News) -> bool
+    ensures gives { Gives (N.gone net.old) (N.gone net.new) (N.has_ended net.new) peers.old peers.new }
+    ensures came { Rests (N.came net.old) (N.came net.new) }
+    ensures gone { Rests (N.gone net.old) (N.gone net.new) }
+    ensures woken { AreWoken (N.wakes net.old) peers.old → AreWoken (N.wakes net.new) peers.new }
+    ensures ended { Stays (N.has_ended net.old) (N.has_ended net.new) }
+    ensures free { Stays (N.is_free net.old) (N.is_free net.new) }
+{
+    match net.told() {
+        None => false,
+        Some(Told::Connection { id, is_gone }) => {
+            peers.wake(id, is_gone);
+            true
+        }
+        Some(Told::Door) => {
+            news.is_knocked = true;
+            true
+        }
+        Some(Told::InputEnds) => {
+            news.input_has_ended = true;
+            true
+        }
+    }
+}
