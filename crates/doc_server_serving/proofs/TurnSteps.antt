@@ -31,7 +31,7 @@ served_takes k w v c d ended run None (Some q) s = s
 served_takes k w v c d ended run (Some p) None s = s
 served_takes k w v c d ended run (Some p) (Some q) s = s.takes
 
-pub given_none : (a b : Option (List ℕ)) (ended : Type 0) (p q : Option Peer) → GivesOne a b ended p q → p ≡ None → (b ≡ a) × (q ≡ None)
+given_none : (a b : Option (List ℕ)) (ended : Type 0) (p q : Option Peer) → GivesOne a b ended p q → p ≡ None → (b ≡ a) × (q ≡ None)
 given_none a b ended None None g e = (g, refl)
 given_none a b ended None (Some q) g e = absurd g
 given_none a b ended (Some p) None g e = absurd g

@@ -1,9 +1,6 @@
-pub mod Invariants
-pub mod Leading
 pub mod Replies
 pub mod Servings
 pub mod Sharing
 pub mod Silences
-pub mod Sites
 pub mod Turns
 pub mod Wirings

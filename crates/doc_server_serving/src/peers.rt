@@ -1,12 +1,12 @@
 //! The clients by the numbers of their connections.
 
-ghost use Rattle.std.specs.Prelude.{◌≡◌, ◌∷◌, ℕ, [], false, length, is_some, true, OnErr, OnOk};
+ghost use Rattle.std.specs.Prelude.{◌≡◌, ◌∷◌, ℕ, [], length, is_some, OnErr, OnOk};
 ghost use Rattle.std.specs.FinMap as map;
 ghost use Rattle.doc_server_network.specs.Networks.{Rests, Stays};
 ghost use Rattle.doc_server_saved.specs.Saved.{IsReady, StaysSaved};
 ghost use Rattle.doc_server_serving.specs.Servings.{ServesAll};
 ghost use Rattle.doc_server_serving.specs.Sharing.{SharesTurn};
-ghost use Rattle.doc_server_serving.specs.Wirings.{AreWoken, Gives, LingerAll, SweptAll, WokeAt, new_peer};
+ghost use Rattle.doc_server_serving.specs.Wirings.{AreWoken, Gives, LingerAll, SweptAll, WokeAt};
 
 use crate::client::Client;
 use doc_page::renderer::Renderer;
@@ -63,17 +63,6 @@ impl Peers {
     {
         self.clients.insert(id, client)?;
         Ok(())
-    }
-
-    /// Takes a client in whose connection is just being made. False: memory is lacking.
-    pub fn admit(&mut self, heap: Heap, id: u64) -> bool
-        ensures taken { result ≡ true → self.new ≡ map.insert self.old id new_peer }
-        ensures refused { result ≡ false → self.new ≡ self.old }
-    {
-        match self.insert(id, Client::new(heap)) {
-            Ok(()) => true,
-            Err(_) => false,
-        }
     }
 
     /// Whether a client stands under this number.
@@ -261,19 +250,6 @@ impl Peers {
             }
         }
         Ok(())
-    }
-
-    /// Whether one of these takes part in the next turn, be the network to tell of it or not.
-    pub fn goes_on(&self, numbers: &[u64]) -> bool {
-        numbers.iter().any(|id| self.takes_part(*id))
-    }
-
-    /// Whether the client of this number, where there is one, takes part in the turn that begins.
-    fn takes_part(&self, id: u64) -> bool {
-        match self.clients.get(&id) {
-            Some(client) => client.takes_part(),
-            None => false,
-        }
     }
 
     /// Adds the numbers of those that are to be let go.

@@ -1,6 +1,5 @@
 pub mod Arguments
 pub mod Compacting
-pub mod Hosts
 pub mod Listening
 pub mod Moving
 pub mod NamedDevices

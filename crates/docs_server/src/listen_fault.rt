@@ -8,7 +8,7 @@ use doc_server_config::browsing::BrowseError;
 use doc_server_config::listening::ListeningError;
 use doc_server_journal::fault::OpenFault;
 use doc_server_journal::file_fault::FileFault;
-use doc_server_serving::fault::ServeFault;
+use doc_server_poll::fault::PollFault;
 use doc_server_restore::compact_fault::CompactFault;
 use doc_server_restore::fault::RestoreFault;
 use doc_server_streams::fault::Fault;
@@ -100,18 +100,18 @@ impl From<RestoreFault> for ListenFault {
     }
 }
 
-impl From<ServeFault> for ListenFault {
+impl From<PollFault> for ListenFault {
     ghost use Rattle.std.specs.Prelude.{◌≡◌};
     ghost use Rattle.docs_server.specs.declared.listen_fault.ListenFault.TheVariants as faults;
-    ghost use Rattle.docs_server.specs.Listening.{serve_fault_of};
+    ghost use Rattle.docs_server.specs.Listening.{poll_fault_of};
 
-    ghost from_gives = { λ fault stop. stop ≡ faults.Command (serve_fault_of fault) };
+    ghost from_gives = { λ fault stop. stop ≡ faults.Command (poll_fault_of fault) };
 
-    fn from(fault: ServeFault) -> ListenFault {
+    fn from(fault: PollFault) -> ListenFault {
         ListenFault::Command(match fault {
-            ServeFault::Socket => Fault::Socket,
-            ServeFault::CannotWrite => Fault::CannotWrite,
-            ServeFault::Memory => Fault::Memory,
+            PollFault::Socket => Fault::Socket,
+            PollFault::CannotWrite => Fault::CannotWrite,
+            PollFault::Memory => Fault::Memory,
         })
     }
 }

@@ -1,4 +1,4 @@
-//! Tries a server that accepts while it serves (`doc_server_serving`), over TCP, as `trial` says. The program is its own client: a call
+//! Tries a server that accepts while it serves (`doc_server_poll`), over TCP, as `trial` says. The program is its own client: a call
 //! alternates between turns of the server and what the peers write and read, until what it waits for has come, so that its answer is
 //! the same whatever the timing.
 //!
