@@ -14,7 +14,7 @@ token behind. curl, wget and chromium read it through nginx:
 
 Builds nothing. Needs python3, openssl, and nginx, curl, wget and chromium, which it has installed where they lack. Half a minute.
 """
-import os, re, sys, tomllib, urllib.parse
+import glob, os, re, sys, tomllib, urllib.parse
 sys.path.insert(1, os.path.dirname(__file__) + "/../lib")
 from proxies import Nginx, fields, keys, run
 from scene import Client, Scene, put, read_by_all
@@ -58,6 +58,12 @@ def reached(fetch, links_of):
             found.add(target)
             left += links_of(fetch(target))
     return found
+
+
+def of_folders(rows):
+    """The pages of folders, as rows of the configuration's pages."""
+    return [{"path": f"{row['prefix']}/{os.path.relpath(file, row['path'])}", "groups": row["groups"]}
+            for row in rows for file in glob.glob(f"{row['path']}/**/*.md", recursive=True)]
 
 
 def pages_seen(proxy, reader, pages, direct):
@@ -167,7 +173,7 @@ def main():
         check_logins(proxy.curl)
         for reader in config["reader"]:
             who, direct = reader["token"].removeprefix("tok-"), Client(server.port, reader["token"])
-            seen = pages_seen(proxy, reader, config["page"], direct)
+            seen = pages_seen(proxy, reader, config["page"] + of_folders(config["folder"]), direct)
             pages_walked(proxy, who, seen, direct)
             check_browser(proxy, who, seen, config["browse"]["title"])
             direct.close()

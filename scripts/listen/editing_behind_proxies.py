@@ -1,4 +1,4 @@
-"""Edits pages through nginx, set up by site/nginx.conf.template, through haproxy by the lines of docs/RUNNING.md, and without a proxy:
+"""Edits pages through nginx, set up by site/nginx.conf.template, through haproxy by site/haproxy.cfg.template, and without a proxy:
 
 - sources, groups, moves, previews and the form, each with the lines of its head as docs_server sends them, and HTML with one policy;
 - conditions that hold and that don't, on each route; tags that nginx weakens where it compresses;

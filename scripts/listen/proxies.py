@@ -1,8 +1,9 @@
 """What the scripts share that put a proxy before `listen`: nginx as site/nginx.conf.template sets it up, with a certificate and logins;
-haproxy by the lines of docs/RUNNING.md; and curl, which asks through them."""
-import base64, os, re, subprocess
+haproxy by site/haproxy.cfg.template; and curl, which asks through them."""
+import base64, os, subprocess
 from scene import HOST, free_port, put, start, stop, until
 
+UNLIMITED = {"rate=20r/s": "rate=100000r/s", "docs_connections 50": "docs_connections 10000"}
 LOGINS = {"owner": "tok-owner", "ann": "tok-ann", "bob": "tok-bob", "eve": ""}
 
 
@@ -25,6 +26,15 @@ def keys(scene):
 def fields(lines, name):
     """The values of a field in the lines of a head."""
     return [line.partition(": ")[2] for line in lines if line.lower().startswith(name.lower() + ": ")]
+
+
+def filled(text, words):
+    """A template with words replaced, each of which has to be there."""
+    for word, value in words.items():
+        if word not in text:
+            raise ValueError(f"{word} isn't in the template")
+        text = text.replace(word, value)
+    return text
 
 
 class Direct:
@@ -52,22 +62,22 @@ class Direct:
 
 
 class Nginx(Direct):
-    """nginx in front of a server, by the template. `more` are lines of its own beside the template's server."""
+    """nginx in front of a server, by the template. `more` are lines of its own beside the template's server. A script asks more than a
+    reader does, so its limits are out of reach where they aren't what is tried."""
 
-    def __init__(self, scene, backend, more=""):
+    def __init__(self, scene, backend, more="", limited=False):
         super().__init__(scene, free_port())
-        self.base = f"https://{HOST}:{self.port}"
+        self.base, self.limited = f"https://{HOST}:{self.port}", limited
         self.process = start(["nginx", "-p", scene.scratch, "-c", self.configured(backend, more)])
 
     def configured(self, backend, more):
         """Its configuration: the template in the least of a frame."""
         folder = f"{self.scene.scratch}/nginx-{self.port}"
         with open("site/nginx.conf.template") as template:
-            text = template.read()
+            text = filled(template.read(), {} if self.limited else UNLIMITED)
         words = {word: f"{self.scene.scratch}/{word.lower()}" for word in ("CERT", "KEY", "USERS", "TOKENS")}
-        for word, value in {**words, "LISTEN": f"{HOST}:{self.port}", "NAME": HOST, "BACKEND": f"{HOST}:{backend}"}.items():
-            text = text.replace(f"@{word}@", value)
-        put(f"{folder}/site.conf", text)
+        words |= {"LISTEN": f"{HOST}:{self.port}", "NAME": HOST, "BACKEND": f"{HOST}:{backend}"}
+        put(f"{folder}/site.conf", filled(text, {f"@{word}@": value for word, value in words.items()}))
         paths = "".join(f"{name}_temp_path {folder}/{name};" for name in ("client_body", "proxy", "fastcgi", "uwsgi", "scgi"))
         put(f"{folder}/nginx.conf", f"daemon off; pid {folder}/pid; error_log stderr crit; worker_processes 1; events {{}}\n"
             f"http {{ access_log off; {paths} {more} include {folder}/site.conf; }}\n")
@@ -84,16 +94,13 @@ class Nginx(Direct):
 
 
 class Haproxy(Direct):
-    """haproxy by the lines of docs/RUNNING.md, in front of a server that takes edits, and of another one that reads are shared with."""
+    """haproxy by the template, in front of a server that takes edits, and of another one that reads are shared with."""
 
     def __init__(self, scene, writer, reader):
         super().__init__(scene, free_port())
-        with open("docs/RUNNING.md") as text:
-            found = re.search(r"(?m)^    defaults\n(?:    .*\n)+", text.read())
-        lines = found[0] if found else ""
-        for address, here in (("127.0.0.1:8090", self.port), ("10.0.0.1:8080", writer), ("10.0.0.2:8080", reader)):
-            lines = lines.replace(address, f"{HOST}:{here}")
-        put(f"{scene.scratch}/haproxy.cfg", lines)
+        with open("site/haproxy.cfg.template") as template:
+            words = {"@LISTEN@": f"{HOST}:{self.port}", "@WRITER@": f"{HOST}:{writer}", "@READER@": f"{HOST}:{reader}"}
+            put(f"{scene.scratch}/haproxy.cfg", filled(template.read(), words))
         self.process = start(["haproxy", "-f", f"{scene.scratch}/haproxy.cfg", "-db"], stderr=subprocess.DEVNULL)
 
     begins, ends = Nginx.begins, Nginx.ends
