@@ -21,26 +21,29 @@ SITES = {"good": 'text = "A"\n', "absent": 'file = "absent.md"\n', "long": 'file
 DIFFER = {"good": [b"put b.md - B\n"], "no_edit": [b"put b.md - B\n", b"connect\n"], "refused": [b"remove b.md\n", b"move b.md c.md\n"],
           "long_path": [b"put " + b"a" * 201 + b" - B\n"], "empty_line": [b"\n"], "no_text": [b"put b.md -\n"],
           "latin": [b"put b.md - \xff\n"]}
-USAGES = (["listen"], ["listen", "good.toml"], ["listen", "good.toml", f"{HOST}:0", "--journal"], ["compact"],
-          ["compact", "good.toml"], ["listen", "good.toml", f"{HOST}:0", "good"],
-          ["listen", "good.toml", f"{HOST}:0", "--Journal", "good"], ["compact", "good.toml", "good"],
-          ["listen", "good.toml", f"{HOST}:0", "--journal", "good", "x"], ["compact", "good.toml", "--journal"],
-          ["compact", "good.toml", "--journal", "good", "x"], ["compact", "good.toml", "--log", "good"], ["folders"],
-          ["folders", "good.toml", "x"])
+USAGES = ((["listen"], ()), (["listen", "good.toml"], ()), (["listen", "good.toml", f"{HOST}:0", "--journal"], ("--journal needs a file",)),
+          (["compact"], ()), (["compact", "good.toml"], ()),
+          (["listen", "good.toml", f"{HOST}:0", "good"], ("unknown option: good",)),
+          (["listen", "good.toml", f"{HOST}:0", "--Journal", "good"], ("unknown option: --Journal",)),
+          (["compact", "good.toml", "good"], ("unknown option: good",)),
+          (["listen", "good.toml", f"{HOST}:0", "--journal", "good", "x"], ("unknown option: x",)),
+          (["compact", "good.toml", "--journal"], ("--journal needs a file",)),
+          (["compact", "good.toml", "--journal", "good", "x"], ("unknown option: x",)),
+          (["compact", "good.toml", "--log", "good"], ("unknown option: --log",)), (["folders"], ()), (["folders", "good.toml", "x"], ()))
 NEW = "docs_server: new journal kept\n"
 MOVED = "docs_server: journal moved\n"
-NO_ADDRESSES = ("", HOST, "localhost:80", ":80", f"{HOST}:", f"{HOST}:65536", "256.0.0.1:80", "::1:80")
+NO_ADDRESSES = ("", HOST, "localhost", "localhost:", ":80", f"{HOST}:", f"{HOST}:65536", "256.0.0.1:80", "::1:80")
 
 
-def stops(words, line, stdout=subprocess.DEVNULL, limit=None):
-    """It ends with status 2 and this line, and prints nothing else."""
+def stops(words, *lines, stdout=subprocess.DEVNULL, limit=None):
+    """It ends with status 2 and these lines, and prints nothing else."""
     try:
         done = subprocess.run([scene.program, *words], stdin=subprocess.DEVNULL, stdout=stdout, stderr=subprocess.PIPE, timeout=20,
                               preexec_fn=limit)
     except subprocess.TimeoutExpired:
-        return scene.check(" ".join(words), False, f"it goes on, and isn't stopped as {line}")
+        return scene.check(" ".join(words), False, f"it goes on, and isn't stopped as {lines}")
     found = done.returncode, done.stderr.decode()
-    return scene.check(" ".join(words), found == (2, f"docs_server: {line}\n"), f"{found}, wanted {line}")
+    return scene.check(" ".join(words), found == (2, "".join(f"docs_server: {line}\n" for line in lines)), f"{found}, wanted {lines}")
 
 
 def damaged():
@@ -64,10 +67,10 @@ def files():
 
 
 def usage(full):
-    for words in USAGES:
-        stops(words, "usage")
+    for words, told in USAGES:
+        stops(words, *told, "usage")
     for address in NO_ADDRESSES:
-        stops(["listen", "absent.toml", address], "usage", stdout=full)
+        stops(["listen", "absent.toml", address], "ADDR is an IP address or localhost, and a port: 127.0.0.1:8080", "usage", stdout=full)
 
 
 class Later:

@@ -272,7 +272,7 @@ def options():
         done = subprocess.run([scene.program, "listen", "site.toml", f"{HOST}:{free_port()}", *words], stdout=subprocess.DEVNULL,
                               stderr=subprocess.PIPE, timeout=20, **given)
         wanted = (0, b"") if good else (2, b"docs_server: usage\n")
-        said = re.sub(rb"docs_server: new journal .*\n", b"", done.stderr)
+        said = re.sub(rb"docs_server: (new journal .*|unknown option: .*|.* (needs a file|stands twice))\n", b"", done.stderr)
         scene.check(" ".join(["listen", *words]), (done.returncode, said) == wanted, (done.returncode, done.stderr))
 
 

@@ -1,4 +1,4 @@
-"""What the peers of a server over TCP hear, and what its journal has: an outside expectation for `doc_server_poll` and what it stands on.
+"""What the peers of a server over TCP hear, and what its journal has: an outside expectation for `doc_server_serving` and what it stands on.
 
 Replies are those of replies.py, over pages of plain paragraphs; the journal is written and read by journals.py. What the server does with
 streams is by docs/RUNNING.md: a peer is read where it is owed nothing, one that was sent its last reply is told the end, one too many

@@ -21,7 +21,7 @@ use Rattle.doc_server_restore.specs.Laws.{AreEdits, CompactionIsRestored}
 use Rattle.doc_server_restore.specs.Written.{IsWritten}
 use Rattle.doc_server_journal.specs.Journals.{Holds, IsOpen}
 use Rattle.doc_server_journal_records.specs.Readings.{ReadsAs}
-use Rattle.doc_server_compacting.specs.Compactings.{GiveSite, HoldsSite, IsJournalTo, IsOfEdits, IsPageOfEdits}
+use Rattle.doc_server_compacting.specs.Compactings.{GiveSite, HoldsSite, IsJournalTo, IsOfEdits, IsPageOfEdits, LeadThere}
 use Rattle.doc_server_compacting.proofs.EditSizes.{edits_fit}
 
 -- ---- the edits of a compaction are edits as calls take them
@@ -136,16 +136,16 @@ reads seen may_leave failed stale journal texts (Some bytes) is (tail, is_tail, 
   texts_are = is.texts_are;
 }
 
--- and holds the site that they give
+-- and is a journal of them
 pub holds : {D : Type 0} (seen : D → Option (List ℕ)) (may_leave : D → List ℕ → Type 0) (failed : D → Bool) (stale : D → ℕ → Type 0)
     (journal : Journal D) (texts : List (List ℕ)) (config : StoreState) (site : Site) → IsOpen seen may_leave failed stale journal texts
-    → (IsOfEdits config.site → IsOfEdits site → GiveSite texts config site) → HoldsSite (seen journal.device) config site
-holds seen may_leave failed stale journal texts config site is gives of_config of_site =
+    → LeadThere config site texts → HoldsSite (seen journal.device) config site
+holds seen may_leave failed stale journal texts config site is leads =
     by (seen journal.device) (reads seen may_leave failed stale journal texts (seen journal.device) is is.file)
   where
     by : (known : Option (List ℕ)) → IfSome known (λ file. ReadsAs file texts) → IfSome known (IsJournalTo config site)
     by None file = tt
-    by (Some bytes) file = (texts, file, gives of_config of_site)
+    by (Some bytes) file = (texts, file, leads)
 
 -- whether the file took the name or not
 pub either : (before old new seen : Option (List ℕ)) (config : StoreState) (site : Site) → old ≡ before → HoldsSite seen config site

@@ -8,6 +8,8 @@ use Rattle.doc_store.specs.Store.{StoreState, alias_limit, page_limit, text_limi
 use Rattle.doc_server_journal_records.specs.FirstReadings.{IsFirst}
 use Rattle.doc_server_journal_records.specs.Readings.{ReadsAs}
 use Rattle.doc_server_restore.specs.Restores.{restored, unstamped}
+use Rattle.doc_server_restore.specs.Written.{AreLines}
+use Rattle.doc_server_script.specs.Compactions.{compacted}
 use Rattle.doc_server_script.specs.Laws.{IsPathText, IsText}
 
 -- a page as puts take it, and where it may stand
@@ -39,13 +41,18 @@ LeadsTo known old new =
 abbrev pub GiveSite : List (List ℕ) → StoreState → Site → Type 0
 GiveSite texts config site = (after : StoreState) × (restored None (unstamped config) texts ≡ Ok after) × (after.site ≡ site)
 
--- the bytes are a journal whose records, restored over a configuration, give a site
-abbrev pub IsJournalTo : StoreState → Site → List ℕ → Type 0
-IsJournalTo config site file = (texts : List (List ℕ)) × ReadsAs file texts × GiveSite texts config site
+-- records of the edits that lead from a configuration's site to another: restored, they give it, where edits can make both
+abbrev pub LeadThere : StoreState → Site → List (List ℕ) → Type 0
+LeadThere config site texts =
+    AreLines texts (compacted config.site site) × (IsOfEdits config.site → IsOfEdits site → GiveSite texts config site)
 
--- the file holds a journal of a site, where it is known, and edits can make the configuration's site and that one
+-- the bytes are a journal of such records
+abbrev pub IsJournalTo : StoreState → Site → List ℕ → Type 0
+IsJournalTo config site file = (texts : List (List ℕ)) × ReadsAs file texts × LeadThere config site texts
+
+-- the file is one, where it is known
 abbrev pub HoldsSite : Option (List ℕ) → StoreState → Site → Type 0
-HoldsSite known config site = IsOfEdits config.site → IsOfEdits site → IfSome known (IsJournalTo config site)
+HoldsSite known config site = IfSome known (IsJournalTo config site)
 
 -- The file of a name before and after a compaction: the edits of the journal that it held led from one store to another, and it holds a
 -- journal that leads to that one's site from the configuration's.

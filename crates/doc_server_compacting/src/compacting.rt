@@ -12,9 +12,9 @@ use doc_server_journal::torn::KeepTorn;
 use doc_server_journal_records::header::Identity;
 use doc_store::store::Store;
 
-/// Makes the edits of the journal of a name on a site, which is the configuration's before, and gives the name to a journal of this identity
-/// whose edits lead from the configuration's site to that one. They are of so many seconds behind the beginning of 1970. Where this fails
-/// the file beside goes.
+/// Makes the edits of the journal of a name on a site, which is the configuration's before, and gives the name to a journal of this
+/// identity whose edits lead from the configuration's site to that one. They are of so many seconds behind the beginning of 1970. Where
+/// this fails the file beside goes.
 pub fn compact_file<P: Place, K: KeepTorn>(
     heap: Heap,
     place: &mut P,

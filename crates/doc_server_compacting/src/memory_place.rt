@@ -2,7 +2,7 @@
 
 ghost use Rattle.std.specs.Prelude.{◌≡◌, false, IfOk};
 ghost use Rattle.doc_server_journal.specs.Memories.{has_failed, memory_bytes};
-ghost use Rattle.doc_server_compacting.specs.MemoryPlaces.{named_bytes};
+ghost use Rattle.doc_server_compacting.specs.MemoryPlaces.{named_bytes, stands_beside};
 
 use crate::place::Place;
 use doc_page_parts::bytes::Bytes;
@@ -47,7 +47,9 @@ impl MemoryPlace {
     }
 
     /// Whether a file stands beside.
-    pub fn has_beside(&self) -> bool {
+    pub fn has_beside(&self) -> bool
+        ensures { result ≡ stands_beside self.now }
+    {
         self.has_beside
     }
 

@@ -1,7 +1,7 @@
 //! A journal of the edits that lead from a configuration's site to another, with the reserve that a server asks of it.
 
 ghost use Rattle.std.specs.Prelude.{◌≡◌, ◌≤◌, ◌+◌, List, ℕ, false, IfOk, OnOk};
-ghost use Rattle.doc_server_compacting.specs.Compactings.{GiveSite, IsOfEdits};
+ghost use Rattle.doc_server_compacting.specs.Compactings.{LeadThere};
 ghost use Rattle.doc_server_journal.specs.Journals.{IsOpen};
 ghost use Rattle.doc_store.specs.Store.{put_limit};
 
@@ -29,8 +29,7 @@ pub fn write_journal<D: Device + Drop>(
     requires usable { D.failed device ≡ false }
     ensures written { IfOk result (λ journal. (texts : List (List ℕ))
         × IsOpen D.seen D.may_leave D.failed D.stale journal texts
-        × (IsOfEdits config.now.site → IsOfEdits site.now.site
-        → GiveSite texts config.now site.now.site)) }
+        × LeadThere config.now site.now.site texts) }
     ensures reserve { IfOk result (λ journal. RESERVE ≤ journal.room) }
 {
     a_compaction_is_restored();

@@ -35,7 +35,7 @@ use Rattle.doc_hub_events.specs.declared.refusal.PushError.TheVariants as push_e
 use Rattle.doc_hub_events.specs.declared.refusal.StepError.{StepError}
 use Rattle.doc_hub_events.specs.declared.refusal.StepError.TheVariants as step_errors
 use Rattle.doc_hub.specs.RunParts.{served_by}
-use Rattle.doc_hub.specs.Runs.{Happened, Happens, Leaves, nothing, first}
+use Rattle.doc_hub.specs.Runs.{Happened, Happens, Leaves, Runs, nothing, first}
 use Rattle.doc_hub.specs.StepEdits.{Changes}
 use Rattle.doc_hub.specs.Worlds.{World, Answers, Stays, StepsAt, disconnected, stepped_by, world_pushed}
 use Rattle.doc_hub.specs.declared.connection.Connection.{Connection}
@@ -44,8 +44,7 @@ use Rattle.doc_hub.proofs.StepEdits.{steps_change}
 use Rattle.doc_hub.proofs.ToldPaths.{told_at_paths}
 use Rattle.doc_server_script.specs.PageLines.{line_of, lines_of}
 use Rattle.doc_server_listen.specs.Counting.{Counts, EditsAreCounted, IsOfPeer, count_in}
-use Rattle.doc_server_listen.specs.Edits.{IsRemoval, MakesIn, accepted, edit_at, longest_removal}
-use Rattle.doc_server_listen.proofs.EditSteps.{starts}
+use Rattle.doc_server_listen.specs.Edits.{IsRemoval, MakesIn, accepted, edit_at, left_by, longest_removal}
 use Rattle.doc_server_listen.proofs.Removals.{removal_within, tells_removals_alone}
 
 -- ---- how many pages stand
@@ -231,6 +230,11 @@ counts_join w v u xs ys one two = record {
       where
         distributed : (x y z : ℕ) → x * (y + z) ≡ x * y + x * z
         distributed x y z = grind (arith)
+
+-- a run begins in the world that the event before it left
+starts : (render : Renders) (v u : World) (ys : List Happened) → Runs render v ys u → left_by ys u ≡ v
+starts render v u ys (nothing x) = refl
+starts render v u ys (first x y z event outcome rest happens runs) = refl
 
 pub edits_are_counted : EditsAreCounted
 edits_are_counted render w v run [] (nothing x) peers made = counts_none w w (refl, refl)

@@ -1,16 +1,14 @@
 -- What steps cost of a turn, and how a turn is shared by its connections.
-use Rattle.std.specs.Prelude.{◌≡◌, ◌≤◌, ℕ, ◌+◌, ◌*◌, ◌==◌, List, [], ◌∷◌, Bool, false, ◌||◌, not, nat_eq, nat_le, codes, Option, Some, None, count_by}
-use Rattle.std.specs.Prelude.{if◌then◌else◌, slice_get, sum_by}
+use Rattle.std.specs.Prelude.{◌≡◌, ◌≤◌, ℕ, ◌+◌, ◌==◌, List, [], ◌∷◌, Bool, ◌||◌, not, nat_eq, nat_le, codes, Option, Some, None, sum_by}
+use Rattle.std.specs.Prelude.{if◌then◌else◌}
 use Rattle.std.specs.List.{list_any, starts_with}
-use Rattle.doc_hub.specs.Runs.{Happened, events_on}
+use Rattle.doc_hub.specs.Runs.{Happened}
 use Rattle.doc_hub.specs.StepLaws.{connection}
 use Rattle.doc_hub.specs.Worlds.{World}
 use Rattle.doc_hub.specs.declared.connection.Connection.{Connection}
 use Rattle.doc_hub_events.specs.declared.event.Event.{Event}
 use Rattle.doc_hub_events.specs.declared.event.ConnectionEvent.TheVariants as calls
 use Rattle.doc_hub_events.specs.declared.event.Event.TheVariants as events
-use Rattle.doc_server_listen.specs.Peers.{Peer}
-use Rattle.doc_server_listen.specs.Turns.{ids_of}
 
 -- ---- what a step costs; all of it is this project's choice
 
@@ -75,17 +73,3 @@ Takes old new cost = (new.own + cost ≡ old.own) × (new.dear + dear cost ≡ o
 -- a run takes no more than what was left
 abbrev pub IsWithin : List Happened → Left → Left → Type 0
 IsWithin run old new = (cost_in run + new.own ≤ old.own) × (dear_in run + new.dear ≤ old.dear)
-
-abbrev pub is_number : ℕ → Option ℕ → Bool
-is_number c None = false
-is_number c (Some n) = c == n
-
--- at how many of these places a client of this connection stands
-abbrev pub times_among : List Peer → List ℕ → ℕ → ℕ
-times_among ps ready c = count_by (λ place. is_number c (slice_get (ids_of ps) place)) ready
-
--- No connection takes more than its part, for each place where it is served, and all together no more than what was left for more than
--- pages.
-pub record SharesTurn (ps : List Peer) (ready : List ℕ) (run : List Happened) (old new : Left) : Type 0 where
-  pub each : (c : ℕ) → cost_in (events_on c run) ≤ most_cost * times_among ps ready c
-  pub all : dear_in run + new.dear ≤ old.dear

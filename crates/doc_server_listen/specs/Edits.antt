@@ -97,12 +97,6 @@ Adds old new edits =
     (new.most ≡ old.most)
     × (new.is_whole ≡ true → (old.is_whole ≡ true) × (new.lines ≡ option_map (λ lines. lines ++ lines_of edits) old.lines))
 
--- a run's edits, and what they add
-pub record Records (render : Renders) (run : List Happened) (v : World) (old new : Kept) : Type 0 where
-  pub edits : List (Option SiteEdit)
-  pub made : AreMade render run v edits
-  pub adds : Adds old new (accepted edits)
-
 -- an event that makes no edit, whatever comes of it
 abbrev pub IsQuiet : Event → Type 0
 IsQuiet (events.On id calls.Step) = ⊥

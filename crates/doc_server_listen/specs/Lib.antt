@@ -1,9 +1,3 @@
-pub mod Channels
-pub mod Closing
 pub mod Costs
 pub mod Counting
 pub mod Edits
-pub mod MemoryChannels
-pub mod Peers
-pub mod Served
-pub mod Turns

@@ -1,14 +1,9 @@
-//! Turns over many streams that never wait: each takes in what peers sent, steps the hub, and then hands the replies over as far
-//! as the streams take them. `doc_server_settling` puts a journal between. Of the system they call nothing.
+//! What a turn of a server is made of beside its network: what a step costs, what is left of a turn to take, and the edits of a turn as
+//! lines of a script. `doc_server_network` keeps the lines, and `doc_server_serving` shares its turns by the costs. Of the system it calls
+//! nothing.
 #![tactic(auto)]
 
-pub mod channel;
-pub mod client;
 pub mod cost;
 pub mod edit_lines;
 pub mod laws;
-pub mod memory_channel;
-mod sending;
 pub mod share;
-mod stage;
-pub mod turn;

@@ -1,2 +1,9 @@
+mod Crashes
 pub mod MemorySteps
 pub mod Passing
+mod QuietEvents
+mod Records
+mod Rooms
+mod Saving
+mod Settling
+mod Texts

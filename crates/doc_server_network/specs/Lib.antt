@@ -1,2 +1,4 @@
+pub mod Crashes
 pub mod Memories
 pub mod Networks
+pub mod Saved

@@ -10,11 +10,11 @@ use crate::guest::Guest;
 use crate::line::Line;
 use crate::net_fault::NetFault;
 use crate::network::Network;
+use crate::permit::Permit;
 use crate::script::Script;
 use crate::told::Told;
 use doc_page_parts::failure::Memory;
 use doc_page_parts::heap::{BTreeMap, Heap};
-use doc_server_saved::permit::Permit;
 use std::collections::VecDeque;
 use std::time::Duration;
 

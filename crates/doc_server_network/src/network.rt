@@ -6,8 +6,8 @@ ghost use Rattle.doc_server_network.specs.Networks.{came_len, took_len, Moves, R
 use crate::accepted::Accepted;
 use crate::came::Came;
 use crate::net_fault::NetFault;
+use crate::permit::Permit;
 use crate::told::Told;
-use doc_server_saved::permit::Permit;
 use std::time::Duration;
 
 /// Connections by their numbers, each of which is given once. A call moves bytes on the connection that it names, and on no other.

@@ -1,7 +1,7 @@
 -- Steps of a client's connection, one behind the other.
-use Rattle.std.proofs.Common.{◌≡◌, ◌≤◌, ◌<◌, ◌+◌, ℕ, List, [], ◌∷◌, ◌++◌, Bool, true, false, cond, length, refl, sym, ap, ◌∙◌, subst, ◌==◌, arith}
+use Rattle.std.proofs.Common.{◌≡◌, ◌≤◌, ◌<◌, ◌+◌, ℕ, List, [], ◌∷◌, ◌++◌, Bool, true, cond, length, refl, sym, ap, ◌∙◌, subst, arith}
 use Rattle.std.proofs.Common.{inl, inr, append-nil, append_assoc, length-append, eq-eqb}
-use Rattle.std.specs.Prelude.{Contains, Option, Some, None, Result, ◌⊎◌, min, ◌^◌, ◌-◌}
+use Rattle.std.specs.Prelude.{Contains, Some, None, Result, min, ◌^◌, ◌-◌}
 use Rattle.std.specs.FinMap as map
 use Rattle.std.specs.Cmp.{unsigned_tied}
 use Rattle.std.proofs.lemmas.Cmp.{nat_cmp_total}
@@ -10,7 +10,7 @@ use Rattle.doc_hub_answers.specs.Replies.{Renders}
 use Rattle.doc_hub.specs.Runs.{Happens, Happened, Leaves, Runs, nothing, first, events_on, sent_by, sent_on}
 use Rattle.doc_hub.specs.StepLaws.{connection}
 use Rattle.doc_hub.specs.Worlds.{World}
-use Rattle.doc_hub.specs.RunParts.{served_by, AreOf, Gave, pushed_by, pushed_on}
+use Rattle.doc_hub.specs.RunParts.{served_by, AreOf, Gave, pushed_on}
 use Rattle.doc_hub.proofs.RunParts.{runs_join, pushed_join, sent_join, one_on, one_pushes, one_sends, gave_before, gave_after}
 use Rattle.doc_hub_events.specs.Events.{disconnect_on, step_on, stepping}
 use Rattle.doc_hub_events.specs.declared.event.ConnId.{ConnId}
@@ -19,8 +19,8 @@ use Rattle.doc_hub_events.specs.declared.event.Step.{Step}
 use Rattle.doc_hub_events.specs.declared.outcome.Outcome.{Outcome}
 use Rattle.doc_hub_events.specs.declared.outcome.Outcome.TheVariants as outcomes
 use Rattle.doc_hub_events.specs.declared.refusal.StepError.{StepError}
-use Rattle.doc_server_listen.specs.Costs.{CostsAtMost, IsWithin, Left, Takes, next_cost}
-use Rattle.doc_server_listen.proofs.CostSteps.{costs_last, costs_none, costs_step, within_join, within_none, within_step}
+use Rattle.doc_server_listen.specs.Costs.{CostsAtMost, IsWithin, Left, Takes}
+use Rattle.doc_server_listen.proofs.CostSteps.{within_join, within_step}
 use Rattle.doc_server_serving.specs.Replies.{most_pending}
 use Rattle.doc_server_serving.specs.Servings.{Answers, IsEnding, KeepsBound}
 use Rattle.doc_server_serving.specs.Wirings.{Peer}

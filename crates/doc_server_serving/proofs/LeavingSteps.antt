@@ -8,7 +8,7 @@ use Rattle.std.proofs.lemmas.Cmp.{nat_cmp_total}
 use Rattle.std.proofs.lemmas.List.Elements.{All-append, All-nil, filter-append}
 use Rattle.doc_hub_answers.specs.Replies.{Renders}
 use Rattle.doc_hub.specs.Runs.{Happened, Happens, Runs, nothing, events_on, is_on, sent_on}
-use Rattle.doc_hub.specs.RunParts.{AreOfAny, pushed_on, served_by}
+use Rattle.doc_hub.specs.RunParts.{pushed_on}
 use Rattle.doc_hub.specs.Worlds.{World}
 use Rattle.doc_hub.proofs.RunParts.{none_on, one_pushes, one_sends, pushed_join, pushed_of, runs_join, sent_join, sent_of}
 use Rattle.doc_hub_events.specs.Events.{disconnect_on}
@@ -23,7 +23,7 @@ use Rattle.doc_server_serving.proofs.Tables.{apart, later}
 use Rattle.doc_server_serving.proofs.TurnSteps.{wired_same}
 use Rattle.doc_server_serving.proofs.Wiring.{wired_out}
 
-get_gone : (t : Table) (id k : ℕ) → map.get (map.remove t id) k ≡ cond (k == id) None (map.get t k)
+pub get_gone : (t : Table) (id k : ℕ) → map.get (map.remove t id) k ≡ cond (k == id) None (map.get t k)
 get_gone t id k = map.get-remove nat_cmp_total t id k ∙ ap (λ b. cond b None (map.get t k)) (unsigned_tied k id)
 
 not_some : (x : Option Peer) → is_some x ≡ true → x ≡ None → ⊥
@@ -33,7 +33,7 @@ not_some None is none = absurd (never is)
     never e = cc
 not_some (Some p) is none = cc
 
-wired_on : (d h : Option (List ℕ)) (pushed sent pushes sends : List ℕ) (p : Option Peer) → pushes ≡ [] → sends ≡ [] → Wired d h pushed sent p
+pub wired_on : (d h : Option (List ℕ)) (pushed sent pushes sends : List ℕ) (p : Option Peer) → pushes ≡ [] → sends ≡ [] → Wired d h pushed sent p
     → Wired d h (pushed ++ pushes) (sent ++ sends) p
 wired_on d h pushed sent pushes sends p none also w =
     subst (λ l. Wired d h l (sent ++ sends) p) (sym (ap (λ l. pushed ++ l) none ∙ append-nil pushed))

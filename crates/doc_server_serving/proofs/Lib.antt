@@ -1,10 +1,24 @@
+mod Accepting
 mod AnswerSteps
+mod Bounds
+pub mod Crashing
+mod Feeding
+mod Fewer
+mod Given
+mod Going
+mod Leading
+mod Hearing
 mod LeavingSteps
+mod Listed
 pub mod HandingOver
+mod Modesty
 mod ReadSteps
 mod ServingSteps
+mod Sites
 mod TableServing
 mod TakeSteps
 mod TurnSteps
+mod Turning
 pub mod Tables
 pub mod Wiring
+mod Walks

@@ -1,13 +1,12 @@
 -- A read of a client's connection, and the push of what came.
-use Rattle.std.proofs.Common.{◌≡◌, ◌≤◌, ℕ, List, [], ◌∷◌, ◌++◌, Bool, true, false, length, refl, sym, ap, ◌∙◌, subst, arith, inl, inr, append-nil}
-use Rattle.std.specs.Prelude.{Option, Some, None, Ok, Err, Result}
+use Rattle.std.proofs.Common.{◌≡◌, ℕ, List, [], ◌∷◌, ◌++◌, Bool, true, false, refl, sym, ap, ◌∙◌, inl, inr, append-nil}
+use Rattle.std.specs.Prelude.{⊤, Option, Some, Ok, Err}
 use Rattle.std.specs.Io.KnownBytes.{append_known}
 use Rattle.std.proofs.lemmas.List.Elements.{All-cons}
 use Rattle.doc_hub_answers.specs.Replies.{Renders}
-use Rattle.doc_hub.specs.Runs.{Happens, Happened, Runs, nothing, first, sent_by, sent_on}
-use Rattle.doc_hub.specs.StepLaws.{connection}
+use Rattle.doc_hub.specs.Runs.{Happens, first, sent_on}
 use Rattle.doc_hub.specs.Worlds.{World}
-use Rattle.doc_hub.specs.RunParts.{served_by, pushed_by, pushed_on}
+use Rattle.doc_hub.specs.RunParts.{served_by, pushed_on}
 use Rattle.doc_hub.proofs.RunParts.{gave_before, one_pushes, one_sends, pushed_join, sent_join}
 use Rattle.doc_hub_events.specs.Events.{disconnect_on, push_on, pushing}
 use Rattle.doc_hub_events.specs.declared.event.ConnId.{ConnId}
@@ -15,21 +14,26 @@ use Rattle.doc_hub_events.specs.declared.outcome.Outcome.TheVariants as outcomes
 use Rattle.doc_hub_events.specs.declared.refusal.PushError.{PushError}
 use Rattle.doc_server_listen.specs.Edits.{AreQuiet}
 use Rattle.doc_server_network.proofs.Passing.{append_none}
+use Rattle.doc_server_serving.specs.Hearing.{WasHeard}
 use Rattle.doc_server_serving.specs.Servings.{IsEnding, Serves}
 use Rattle.doc_server_serving.specs.Wirings.{Peer}
 use Rattle.doc_server_serving.proofs.AnswerSteps.{disconnect_drops, first_of, happened, own_one, runs_one, waits_same}
+use Rattle.doc_server_serving.proofs.Hearing.{heard_by}
 use Rattle.doc_server_serving.proofs.ServingSteps.{serves_nothing}
 use Rattle.doc_server_serving.proofs.Wiring.{not_both}
 
 -- serving without a step
 abbrev pub ServesQuietly : Renders → World → World → ℕ → Option (List ℕ) → Option (List ℕ) → Type 0 → Peer → Peer → Type 0
-ServesQuietly render w v id c d ended p q = (s : Serves render w v id c d ended p q) × AreQuiet s.run
+ServesQuietly render w v id c d ended p q =
+    (s : Serves render w v id c d ended p q) × AreQuiet s.run × (p.reads ≡ true → WasHeard id s.run q)
 
 module _ (render : Renders) (c d : Option (List ℕ)) (ended : Type 0) (p q : Peer) (opened : p.is_open ≡ true)
     (waits : q.pending ≡ p.pending) where
   -- nothing came
-  abbrev pub read_nothing : (w : World) (id : ℕ) → d ≡ append_known c [] → q.is_open ≡ true → ServesQuietly render w w id c d ended p q
-  read_nothing w id is stays = (serves_nothing render w id c d ended p q (is ∙ append_none c) waits (stays ∙ sym opened), tt)
+  abbrev pub read_nothing : (w : World) (id : ℕ) → d ≡ append_known c [] → q.is_open ≡ true → (p.reads ≡ true → q.rests ≡ true)
+      → ServesQuietly render w w id c d ended p q
+  read_nothing w id is stays rests =
+      (serves_nothing render w id c d ended p q (is ∙ append_none c) waits (stays ∙ sym opened), tt, λ r. inl (rests r))
 
   -- what came was pushed
   abbrev pub read_pushed : (w v : World) (id : ConnId) (bytes : List ℕ) → Happens render w (push_on id bytes) v (Ok tt)
@@ -57,6 +61,7 @@ module _ (render : Renders) (c d : Option (List ℕ)) (ended : Type 0) (p q : Pe
           };
         },
         (tt, tt),
+        λ r. heard_by (λ o. ⊤) id.0 (one ∷ []) q (one, first_of id.0 one refl, tt),
       )
 
   -- the push was refused, and the connection is dropped
@@ -93,6 +98,8 @@ module _ (render : Renders) (c d : Option (List ℕ)) (ended : Type 0) (p q : Pe
           };
         },
         (tt, (tt, tt)),
+        λ r. heard_by IsEnding id.0 (one ∷ drop ∷ []) q
+            (gave_before IsEnding id.0 (one ∷ []) (drop ∷ []) (one, first_of id.0 one refl, tt)),
       )
 
   -- nothing comes any more, or the read failed, and the connection is dropped
@@ -117,4 +124,5 @@ module _ (render : Renders) (c d : Option (List ℕ)) (ended : Type 0) (p q : Pe
           };
         },
         (tt, tt),
+        λ r. heard_by (λ o. ⊤) id.0 (drop ∷ []) q (drop, first_of id.0 drop refl, tt),
       )

@@ -1,23 +1,20 @@
 -- Serving clients, run after run.
-use Rattle.std.proofs.Common.{◌≡◌, ◌==◌, ℕ, List, [], ◌∷◌, ◌++◌, Bool, true, false, refl, sym, ap, ◌∙◌, subst, inl, inr, append-nil, eq-eqb}
-use Rattle.std.specs.Prelude.{◌⊎◌, Contains, Option, Some, None}
-use Rattle.std.specs.FinMap as map
+use Rattle.std.proofs.Common.{◌≡◌, ℕ, List, [], ◌++◌, Bool, true, false, refl, sym, ap, ◌∙◌, subst, inl, inr, append-nil}
+use Rattle.std.specs.Prelude.{◌⊎◌, Option, Some, None}
 use Rattle.std.specs.Io.KnownBytes.{append_known}
-use Rattle.std.proofs.lemmas.Bool.{eqb-true}
 use Rattle.std.proofs.lemmas.List.Elements.{All-append, All-nil, filter-append}
 use Rattle.doc_hub_answers.specs.Replies.{Renders}
 use Rattle.doc_hub.specs.Runs.{Happened, Runs, nothing, events_on, is_on, sent_on}
 use Rattle.doc_hub.specs.StepLaws.{connection}
 use Rattle.doc_hub.specs.Worlds.{World}
-use Rattle.doc_hub.specs.RunParts.{served_by, AreOf, Gave, pushed_on}
-use Rattle.doc_hub.proofs.Elsewhere.{AreElsewhere, kept_elsewhere}
-use Rattle.doc_hub.proofs.RunParts.{gave_after, gave_before, none_on, pushed_join, pushed_of, runs_join, sent_join, sent_of}
+use Rattle.doc_hub.specs.RunParts.{served_by, Gave, pushed_on}
+use Rattle.doc_hub.proofs.RunParts.{gave_after, gave_before, pushed_join, runs_join, sent_join}
 use Rattle.doc_server_network.proofs.Passing.{append_none}
-use Rattle.doc_server_serving.specs.Servings.{Answers, IsEnding, Served, ServedAt, Serves}
+use Rattle.doc_server_serving.specs.Servings.{Answers, IsEnding, Served, Serves}
 use Rattle.doc_server_serving.specs.Wirings.{Peer, TakesIn}
 use Rattle.doc_server_serving.proofs.AnswerSteps.{bound_join}
 use Rattle.doc_server_serving.proofs.Wiring.{not_both, takes_join}
-use Rattle.std.proofs.Common.{arith, ◌≤◌, length}
+use Rattle.std.proofs.Common.{arith, length}
 
 -- ---- two runs, whatever else they do
 

@@ -1,6 +1,6 @@
 -- Serving the clients of a table, one behind the other.
-use Rattle.std.proofs.Common.{◌≡◌, ◌≤◌, ◌+◌, ◌*◌, ◌==◌, ℕ, List, [], ◌∷◌, ◌++◌, Bool, true, false, cond, length, refl, sym, ap, ◌∙◌, subst, inl, arith, append-nil, eq-eqb}
-use Rattle.std.specs.Prelude.{Contains, Option, Some, None, count_by, filter, not, sum_by}
+use Rattle.std.proofs.Common.{◌≡◌, ◌≤◌, ◌+◌, ◌*◌, ◌==◌, ℕ, List, [], ◌∷◌, ◌++◌, Bool, true, false, cond, refl, sym, ap, ◌∙◌, subst, inl, arith, append-nil, eq-eqb}
+use Rattle.std.specs.Prelude.{Contains, Option, Some, None, filter, not}
 use Rattle.std.specs.FinMap as map
 use Rattle.std.specs.Io.KnownBytes.{append_known}
 use Rattle.std.proofs.lemmas.Bool.{eqb-true}
@@ -9,18 +9,20 @@ use Rattle.std.proofs.lemmas.List.Filters.{sum_by-filter_both}
 use Rattle.std.proofs.lemmas.List.Sums.{sum_by-append, sum_by-cons}
 use Rattle.std.proofs.Math.Nat.{mul-add}
 use Rattle.doc_hub_answers.specs.Replies.{Renders}
-use Rattle.doc_hub.specs.Runs.{Happened, Runs, nothing, events_on, is_on, sent_on}
+use Rattle.doc_hub.specs.Runs.{Happened, Runs, nothing, events_on, is_on}
 use Rattle.doc_hub.specs.StepLaws.{connection}
 use Rattle.doc_hub.specs.Worlds.{World}
-use Rattle.doc_hub.specs.RunParts.{served_by, AreOf, AreOfAny, pushed_on}
+use Rattle.doc_hub.specs.RunParts.{served_by, AreOf, AreOfAny}
 use Rattle.doc_hub.proofs.Elsewhere.{AreElsewhere, kept_elsewhere}
 use Rattle.doc_hub.proofs.RunParts.{none_on, pushed_of, runs_join, sent_of}
 use Rattle.doc_server_listen.specs.Costs.{IsWithin, Left, cost_by, cost_in, dear, dear_in, most_cost}
 use Rattle.doc_server_network.specs.Networks.{Rests, RestsBut, Stays}
 use Rattle.doc_server_network.proofs.Passing.{append_none}
+use Rattle.doc_server_serving.specs.Hearing.{HearsAll}
 use Rattle.doc_server_serving.specs.Servings.{Served, ServedAt, Serves, ServesAll}
 use Rattle.doc_server_serving.specs.Sharing.{SharesTurn, times_among}
 use Rattle.doc_server_serving.specs.Wirings.{Peer, Table}
+use Rattle.doc_server_serving.proofs.Hearing.{all_hear_join}
 use Rattle.doc_server_serving.proofs.ServingSteps.{served_join}
 use Rattle.doc_server_serving.proofs.Tables.{apart, get_other, get_same}
 use Rattle.doc_server_serving.proofs.Wiring.{not_both}
@@ -229,7 +231,7 @@ shares_join ready more xs ys a b c one two = record {
 abbrev pub AllSharing : Renders → World → World → List ℕ → (ℕ → Option (List ℕ)) → (ℕ → Option (List ℕ)) → (ℕ → Type 0) → Table → Table → Left
     → Left → Type 0
 AllSharing render w v ready came later ended s t l m =
-    (a : ServesAll render w v ready came later ended s t) × SharesTurn ready a.run l m
+    (a : ServesAll render w v ready came later ended s t) × SharesTurn ready a.run l m × HearsAll ready a.run s t
 
 pub all_sharing_join : (render page : Renders) (w v u : World) (ready more : List ℕ) (came mid later : ℕ → Option (List ℕ))
     (ended closed : ℕ → Type 0) (r s t : Table) (l m n : Left) → page ≡ render → Stays ended closed
@@ -238,4 +240,5 @@ pub all_sharing_join : (render page : Renders) (w v u : World) (ready more : Lis
 all_sharing_join render page w v u ready more came mid later ended closed r s t l m n same stays a b = (
   serves_all_join render page w v u ready more came mid later ended closed r s t same stays a.0 b.0,
   shares_join ready more a.0.run b.0.run l m n a.1 b.1,
+  all_hear_join ready more a.0.run b.0.run r s t a.2 b.2,
 )

@@ -182,7 +182,7 @@ woken_same old new t f w = λ k. later (old k) (new k) (map.get t k) (f k) (w k)
 
 swept_not : (p : Option Peer) → SweptAt p p
 swept_not None = tt
-swept_not (Some p) = record { pending = refl; rests = refl; opens = λ o. o }
+swept_not (Some p) = record { pending = refl; rests = refl; opens = λ o. o; feeds = λ f. f }
 
 pub swept_nothing : (t : Table) → SweptAll t t
 swept_nothing t = λ k. swept_not (map.get t k)
@@ -205,7 +205,7 @@ swept_one_join None (Some q) r g h = absurd g
 swept_one_join (Some p) None r g h = absurd g
 swept_one_join (Some p) (Some q) None g h = h
 swept_one_join (Some p) (Some q) (Some r) g h =
-    record { pending = h.pending ∙ g.pending; rests = h.rests ∙ g.rests; opens = λ o. g.opens (h.opens o) }
+    record { pending = h.pending ∙ g.pending; rests = h.rests ∙ g.rests; opens = λ o. g.opens (h.opens o); feeds = λ f. h.feeds (g.feeds f) }
 
 pub swept_join : (t u v : Table) → SweptAll t u → SweptAll u v → SweptAll t v
 swept_join t u v g h = λ k. swept_one_join (map.get t k) (map.get u k) (map.get v k) (g k) (h k)

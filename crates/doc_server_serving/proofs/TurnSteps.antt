@@ -3,16 +3,19 @@ use Rattle.std.proofs.Common.{◌≡◌, ◌++◌, ℕ, List, refl, sym, ap, sub
 use Rattle.std.specs.Prelude.{Option, Some, None, Result, Ok, Err, OnErr}
 use Rattle.std.specs.FinMap as map
 use Rattle.doc_hub_answers.specs.Replies.{Renders}
-use Rattle.doc_hub.specs.Runs.{Happened, Runs, sent_on, events_on}
+use Rattle.doc_hub.specs.Runs.{Happened, sent_on, events_on}
 use Rattle.doc_hub.specs.RunParts.{pushed_on}
 use Rattle.doc_hub.specs.Worlds.{World}
 use Rattle.doc_hub.proofs.RunParts.{pushed_of, sent_of}
 use Rattle.doc_server_listen.specs.Costs.{Left}
 use Rattle.doc_server_network.specs.Networks.{Rests}
 use Rattle.doc_server_serving.specs.Servings.{ServedAt, ServesAll}
-use Rattle.doc_server_serving.specs.Sharing.{SharesTurn}
+use Rattle.doc_server_serving.specs.Hearing.{SparesAll}
+use Rattle.doc_server_serving.specs.Sharing.{IsModest, SharesTurn}
 use Rattle.doc_server_serving.specs.Turns.{IsLeft, Turns}
 use Rattle.doc_server_serving.specs.Wirings.{Peer, Table, Wired, Gives, GivesOne, LingerAll, LingersAt, TakesInAt}
+use Rattle.doc_server_serving.proofs.Hearing.{Heard, heard_begun, heard_ended, spares_join}
+use Rattle.doc_server_serving.proofs.Modesty.{few_bytes, modest}
 use Rattle.doc_server_serving.proofs.TableServing.{AllSharing}
 use Rattle.doc_server_serving.proofs.Tables.{some_none}
 use Rattle.doc_server_serving.proofs.Wiring.{lingers_takes_in, wired_given, wired_taken}
@@ -31,7 +34,7 @@ served_takes k w v c d ended run None (Some q) s = s
 served_takes k w v c d ended run (Some p) None s = s
 served_takes k w v c d ended run (Some p) (Some q) s = s.takes
 
-given_none : (a b : Option (List ℕ)) (ended : Type 0) (p q : Option Peer) → GivesOne a b ended p q → p ≡ None → (b ≡ a) × (q ≡ None)
+pub given_none : (a b : Option (List ℕ)) (ended : Type 0) (p q : Option Peer) → GivesOne a b ended p q → p ≡ None → (b ≡ a) × (q ≡ None)
 given_none a b ended None None g e = (g, refl)
 given_none a b ended None (Some q) g e = absurd g
 given_none a b ended (Some p) None g e = absurd g
@@ -117,17 +120,28 @@ module _ (render : Renders) (w v : World) (ready : List ℕ) (c0 c2 c3 c4 g0 g2 
 
 abbrev pub TurnsSharing : Renders → World → World → List ℕ → (ℕ → Option (List ℕ)) → (ℕ → Option (List ℕ)) → (ℕ → Option (List ℕ))
     → (ℕ → Option (List ℕ)) → Table → Table → Left → Left → Type 0
-TurnsSharing render w v ready c d g h before after l m = (s : Turns render w v ready c d g h before after) × SharesTurn ready s.run l m
+TurnsSharing render w v ready c d g h before after l m =
+    (s : Turns render w v ready c d g h before after) × SharesTurn ready s.run l m × IsModest ready s.run
+    × Heard ready s.run before after
 
 pub begun_sharing : (render : Renders) (w v u : World) (ready : List ℕ) (c0 c1 c2 g0 g1 g2 : ℕ → Option (List ℕ)) (given ended : ℕ → Type 0)
-    (t0 t1 t2 : Table) (l m : Left) → u ≡ v → Gives g0 g1 given t0 t1 → Rests c0 c1 → AllSharing render w v ready c1 c2 ended t1 t2 l m
+    (t0 t1 t2 : Table) (l m : Left) → u ≡ v → Gives g0 g1 given t0 t1 → SparesAll t0 t1 → Rests c0 c1 → AllSharing render w v ready c1 c2 ended t1 t2 l m
     → Rests g1 g2 → TurnsSharing render w u ready c0 c2 g0 g2 t0 t2 l m
-begun_sharing render w v u ready c0 c1 c2 g0 g1 g2 given ended t0 t1 t2 l m same gives came s gone =
-    subst (λ (x : World). TurnsSharing render w x ready c0 c2 g0 g2 t0 t2 l m) (sym same)
-    (turn_begun render w v ready c0 c1 c2 g0 g1 g2 given ended t0 t1 t2 gives came s.0 gone, s.1)
+begun_sharing render w v u ready c0 c1 c2 g0 g1 g2 given ended t0 t1 t2 l m same gives spares came s gone =
+    subst (λ (x : World). TurnsSharing render w x ready c0 c2 g0 g2 t0 t2 l m) (sym same) (
+      turn_begun render w v ready c0 c1 c2 g0 g1 g2 given ended t0 t1 t2 gives came s.0 gone,
+      s.1,
+      modest ready s.0.run l m s.1
+          (λ k. few_bytes k w v (c1 k) (c2 k) (ended k) s.0.run (map.get t1 k) (map.get t2 k) (s.0.each k)),
+      heard_begun ready s.0.run t0 t1 t2 spares s.2,
+    )
 
 pub ended_sharing : (render : Renders) (w v : World) (ready : List ℕ) (c0 c2 c3 c4 g0 g2 g3 g4 : ℕ → Option (List ℕ)) (given : ℕ → Type 0)
     (t0 t2 t3 t4 : Table) (l m : Left) → TurnsSharing render w v ready c0 c2 g0 g2 t0 t2 l m → Gives g2 g3 given t2 t3 → Rests c2 c3
-    → LingerAll c3 c4 t3 t4 → Rests g3 g4 → TurnsSharing render w v ready c0 c4 g0 g4 t0 t4 l m
-ended_sharing render w v ready c0 c2 c3 c4 g0 g2 g3 g4 given t0 t2 t3 t4 l m a gives came lingers gone =
-    (turn_ended render w v ready c0 c2 c3 c4 g0 g2 g3 g4 given t0 t2 t3 t4 a.0 gives came lingers gone, a.1)
+    → LingerAll c3 c4 t3 t4 → SparesAll t2 t3 → SparesAll t3 t4 → Rests g3 g4 → TurnsSharing render w v ready c0 c4 g0 g4 t0 t4 l m
+ended_sharing render w v ready c0 c2 c3 c4 g0 g2 g3 g4 given t0 t2 t3 t4 l m a gives came lingers sent ended gone = (
+  turn_ended render w v ready c0 c2 c3 c4 g0 g2 g3 g4 given t0 t2 t3 t4 a.0 gives came lingers gone,
+  a.1,
+  a.2,
+  heard_ended ready a.0.run t0 t2 t4 a.3 (spares_join t2 t3 t4 sent ended),
+)

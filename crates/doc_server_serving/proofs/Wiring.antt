@@ -3,8 +3,8 @@ use Rattle.std.proofs.Common.{◌≡◌, ◌++◌, ℕ, List, [], Bool, true, fa
 use Rattle.std.specs.Prelude.{◌⊎◌, Option, Some, None, IfSome}
 use Rattle.std.specs.Io.KnownBytes.{append_known}
 use Rattle.doc_server_network.proofs.Passing.{append_join, append_none}
-use Rattle.doc_server_serving.specs.Wirings.{Peer, Wired, IsFrontOf, HearsFront, TakesIn, TakesInAt, HandsOver, GivesOne, ClosesBy, Lingers, LingersAt}
-use Rattle.doc_server_serving.specs.Wirings.{Swept, SweptAt, IsNew, new_peer}
+use Rattle.doc_server_serving.specs.Wirings.{Peer, Wired, IsFrontOf, HearsFront, TakesIn, TakesInAt, HandsOver, GivesOne, Lingers, LingersAt}
+use Rattle.doc_server_serving.specs.Wirings.{SweptAt, IsNew, new_peer}
 
 none_some : (g : List ℕ) → ◌≡◌ {A = Option (List ℕ)} (Some g) None → ⊥
 none_some g e = cc

@@ -1,6 +1,12 @@
+pub mod Crashing
+pub mod Hearing
+pub mod Invariants
+pub mod Leading
+pub mod Parts
 pub mod Replies
 pub mod Servings
 pub mod Sharing
 pub mod Silences
+pub mod Sites
 pub mod Turns
 pub mod Wirings

@@ -19,6 +19,16 @@ is_open_in stages.Reads = true
 is_open_in stages.Steps = true
 is_open_in other = false
 
+-- whether what was read holds no further request
+abbrev pub is_reading_in : Stage → Bool
+is_reading_in stages.Reads = true
+is_reading_in other = false
+
+-- whether it does nothing any more, and is let go
+abbrev pub is_over_in : Stage → Bool
+is_over_in stages.Over = true
+is_over_in other = false
+
 -- from how many pending bytes on a client takes no further step; this project's choice
 unfoldable pub most_pending : ℕ
 most_pending = 262144

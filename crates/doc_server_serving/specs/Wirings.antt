@@ -4,12 +4,16 @@ use Rattle.std.specs.FinMap as map
 use Rattle.std.specs.Ordering.{nat_cmp}
 use Rattle.std.specs.Io.KnownBytes.{append_known}
 
--- What contracts see of a client: the bytes of replies that aren't handed over yet, whether its connection is still its own, and whether it
--- rests until the network tells of it.
+-- What contracts see of a client: the bytes of replies that aren't handed over yet; whether its connection is still its own; whether it rests
+-- until the network tells of it; whether it starves, so that it waits for the next sweep; whether it is over, so that it is let
+-- go; and whether it reads next: nothing is pending, and what was read holds no further request.
 pub record Peer : Type 0 where
   pub pending : List ℕ
   pub is_open : Bool
   pub rests : Bool
+  pub starves : Bool
+  pub is_over : Bool
+  pub reads : Bool
 
 -- the clients by the numbers of their connections
 abbrev pub Table : Type 0
@@ -17,7 +21,7 @@ Table = map.FinMap nat_cmp Peer
 
 -- a client whose connection was just made
 abbrev pub new_peer : Peer
-new_peer = record { pending = []; is_open = true; rests = true }
+new_peer = record { pending = []; is_open = true; rests = true; starves = false; is_over = false; reads = true }
 
 -- ---- one connection
 
@@ -110,11 +114,12 @@ LingerAll c d before after = (k : ℕ) → LingersAt (c k) (d k) (map.get before
 
 -- ---- sweeps
 
--- A sweep closes clients, and does nothing else that contracts see.
+-- A sweep closes clients, and has nobody starve.
 pub record Swept (p q : Peer) : Type 0 where
   pub pending : q.pending ≡ p.pending
   pub rests : q.rests ≡ p.rests
   pub opens : q.is_open ≡ true → p.is_open ≡ true
+  pub feeds : p.starves ≡ false → q.starves ≡ false
 
 abbrev pub SweptAt : Option Peer → Option Peer → Type 0
 SweptAt None None = ⊤
@@ -123,6 +128,11 @@ SweptAt p q = ⊥
 
 abbrev pub SweptAll : Table → Table → Type 0
 SweptAll before after = (k : ℕ) → SweptAt (map.get before k) (map.get after k)
+
+-- no client of that number starves
+abbrev pub IsFedAt : Option Peer → Type 0
+IsFedAt None = ⊤
+IsFedAt (Some p) = p.starves ≡ false
 
 -- ---- who rests is woken
 
@@ -134,10 +144,10 @@ WokenAt wakes (Some p) = p.rests ≡ true → wakes
 abbrev pub AreWoken : (ℕ → Type 0) → Table → Type 0
 AreWoken wakes table = (k : ℕ) → WokenAt (wakes k) (map.get table k)
 
--- A client that was told of rests no more, and is closed where its peer is gone.
+-- A client that was told of rests no more, and where its peer is gone it is closed and over.
 abbrev pub woken : Peer → Bool → Peer
-woken p true = record { pending = p.pending; is_open = false; rests = false }
-woken p false = record { pending = p.pending; is_open = p.is_open; rests = false }
+woken p true = record p { is_open = false; rests = false; is_over = true; reads = false }
+woken p false = record p { rests = false }
 
 -- the table in which the client of that number, if there is one, was told of
 abbrev pub WokeAt : ℕ → Bool → Table → Table → Option Peer → Type 0

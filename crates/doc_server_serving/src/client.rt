@@ -2,6 +2,8 @@
 
 ghost use Rattle.std.specs.Prelude.{◌≡◌, true, false, [], length};
 ghost use Rattle.doc_server_network.specs.Networks.{Rests, RestsBut, Stays, StaysBut};
+ghost use Rattle.doc_server_serving.specs.Hearing.{Spares};
+ghost use Rattle.doc_server_serving.specs.Parts.{takes_part};
 ghost use Rattle.doc_server_serving.specs.Wirings.{ClosesBy, HandsOver, Lingers, Swept, new_peer, woken};
 
 use crate::sending::send_replies;
@@ -11,7 +13,7 @@ use doc_page_parts::bytes::Bytes;
 use doc_page_parts::heap::Heap;
 use doc_server_network::came::Came;
 use doc_server_network::network::Network;
-use doc_server_saved::permit::Permit;
+use doc_server_network::permit::Permit;
 use std::collections::VecDeque;
 use std::marker::Model;
 
@@ -30,7 +32,9 @@ pub struct Client {
 }
 
 impl Model for Client {
-    ghost use Rattle.doc_server_serving.specs.Replies.{Starts, is_open_in, left_of};
+    ghost use Rattle.std.specs.Prelude.{◌&&◌, ◌==◌};
+    ghost use Rattle.std.specs.VecDeque.{deque_len};
+    ghost use Rattle.doc_server_serving.specs.Replies.{Starts, is_open_in, is_over_in, is_reading_in, left_of};
     ghost use Rattle.doc_server_serving.specs.Wirings.{Peer};
 
     ghost Value = { Peer };
@@ -39,6 +43,9 @@ impl Model for Client {
       pending = left_of l.sent l.replies.items;
       is_open = is_open_in l.stage;
       rests = l.rests;
+      starves = l.is_starved && (deque_len l.replies == 0);
+      is_over = is_over_in l.stage;
+      reads = is_reading_in l.stage && (deque_len l.replies == 0);
     } };
 
     ghost invariant = { λ l. Starts l.sent l.replies.items };
@@ -61,7 +68,8 @@ impl Client {
 
     /// Whether the connection is still the client's.
     pub fn is_open(&self) -> bool
-        ensures { result ≡ self.now.is_open }
+        ensures open { result ≡ self.now.is_open }
+        ensures reads { self.now.reads ≡ true → result ≡ true }
     {
         match self.stage {
             Stage::Reads | Stage::Steps => true,
@@ -71,24 +79,25 @@ impl Client {
 
     /// Whether a reply isn't handed over in full.
     pub fn has_pending(&self) -> bool
-        ensures { result ≡ false → self.now.pending ≡ [] }
+        ensures none { result ≡ false → self.now.pending ≡ [] }
+        ensures reads { self.now.reads ≡ true → result ≡ false }
     {
         !self.replies.is_empty()
     }
 
     /// Whether it takes part in the turn that begins: it doesn't rest, neither until the network tells of it nor until the next sweep.
     pub fn takes_part(&self) -> bool
-        ensures { result ≡ true → self.now.rests ≡ false }
+        ensures { result ≡ takes_part self.now }
     {
         if self.rests || self.stage == Stage::Over {
             return false;
         }
-        self.has_pending() || !self.is_starved
+        !self.is_starved || !self.replies.is_empty()
     }
 
     /// Whether it is to be let go.
     pub fn is_over(&self) -> bool
-        ensures { result ≡ true → self.now.is_open ≡ false }
+        ensures { result ≡ self.now.is_over }
     {
         self.stage == Stage::Over
     }
@@ -109,6 +118,7 @@ impl Client {
         ensures gives { HandsOver (N.gone net.old id) (N.gone net.new id)
             self.old.pending self.new.pending }
         ensures why { ClosesBy (N.has_ended net.new id) self.old self.new }
+        ensures spares { Spares self.old self.new }
         ensures others { RestsBut id (N.gone net.old) (N.gone net.new) }
         ensures came { Rests (N.came net.old) (N.came net.new) }
         ensures woken { (self.old.rests ≡ true → N.wakes net.old id)
@@ -117,7 +127,7 @@ impl Client {
         ensures ended { Stays (N.has_ended net.old) (N.has_ended net.new) }
         ensures free { Stays (N.is_free net.old) (N.is_free net.new) }
     {
-        if self.rests || self.stage == Stage::Over {
+        if self.rests || self.stage == Stage::Over || !self.has_pending() {
             return;
         }
         let waiting = (self.replies.len(), self.sent);
@@ -135,6 +145,7 @@ impl Client {
     /// silent.
     pub fn finish<N: Network>(&mut self, id: u64, net: &mut N, piece: &mut [u8])
         ensures lingers { Lingers (N.came net.old id) (N.came net.new id) self.old self.new }
+        ensures spares { Spares self.old self.new }
         ensures others { RestsBut id (N.came net.old) (N.came net.new) }
         ensures gone { Rests (N.gone net.old) (N.gone net.new) }
         ensures woken { (self.old.rests ≡ true → N.wakes net.old id)
@@ -204,6 +215,7 @@ impl Client {
     /// A sweep: what was starved is tried again, and whoever was silent for too long is let go.
     pub fn sweep(&mut self, idle_seconds: u64)
         ensures swept { Swept self.old self.new }
+        ensures fed { self.new.starves ≡ false }
     {
         self.is_starved = false;
         if self.silence.sweep(idle_seconds) {

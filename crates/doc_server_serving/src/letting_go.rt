@@ -2,7 +2,8 @@
 
 ghost use Rattle.std.specs.Prelude.{◌≡◌, ◌∷◌, []};
 ghost use Rattle.doc_server_network.specs.Networks.{Stays};
-ghost use Rattle.doc_server_saved.specs.Saved.{IsReady, StaysSaved};
+ghost use Rattle.doc_server_network.specs.Saved.{IsReady, StaysSaved};
+ghost use Rattle.doc_server_serving.specs.Sites.{IsSameSite};
 ghost use Rattle.doc_server_serving.specs.Turns.{Turns};
 ghost use Rattle.doc_server_serving.specs.Wirings.{AreWoken};
 
@@ -11,7 +12,7 @@ use doc_hub::event::ConnId;
 use doc_page::renderer::Renderer;
 use doc_server_journal::device::Device;
 use doc_server_network::network::Network;
-use doc_server_saved::saved_hub::SavedHub;
+use doc_server_network::saved_hub::SavedHub;
 
 /// Lets the clients of these numbers go: their connections are dropped, and closed.
 pub fn let_go<N: Network, D: Device, R: Renderer + Drop>(
@@ -26,6 +27,7 @@ pub fn let_go<N: Network, D: Device, R: Renderer + Drop>(
     ensures ended { Stays (N.has_ended net.old) (N.has_ended net.new) }
     ensures free { Stays (N.is_free net.old) (N.is_free net.new) }
     ensures same { R.page saved.new.hub.0 ≡ R.page saved.old.hub.0 }
+    ensures site { IsSameSite saved.old.hub.1 saved.new.hub.1 }
     ensures saved { StaysSaved D.seen D.may_leave D.failed D.stale saved.old saved.new }
     ensures ready { IsReady D.seen D.may_leave D.failed D.stale saved.old
         → IsReady D.seen D.may_leave D.failed D.stale saved.new }
@@ -50,6 +52,7 @@ fn let_one_go<N: Network, D: Device, R: Renderer + Drop>(
     ensures ended { Stays (N.has_ended net.old) (N.has_ended net.new) }
     ensures free { Stays (N.is_free net.old) (N.is_free net.new) }
     ensures same { R.page saved.new.hub.0 ≡ R.page saved.old.hub.0 }
+    ensures site { IsSameSite saved.old.hub.1 saved.new.hub.1 }
     ensures saved { StaysSaved D.seen D.may_leave D.failed D.stale saved.old saved.new }
     ensures ready { IsReady D.seen D.may_leave D.failed D.stale saved.old
         → IsReady D.seen D.may_leave D.failed D.stale saved.new }

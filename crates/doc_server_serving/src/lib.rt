@@ -3,9 +3,14 @@
 #![tactic(auto)]
 
 pub mod client;
+pub mod door;
+pub mod fault;
 pub mod letting_go;
+pub mod named_file;
 pub mod peers;
+pub mod room;
 mod sending;
+pub mod server;
 mod silence;
 mod stage;
 pub mod taking;

@@ -1,12 +1,15 @@
 //! The clients by the numbers of their connections.
 
-ghost use Rattle.std.specs.Prelude.{◌≡◌, ◌∷◌, ℕ, [], length, is_some, OnErr, OnOk};
+ghost use Rattle.std.specs.Prelude.{◌≡◌, ◌∷◌, ◌++◌, ℕ, [], false, length, is_some, true, Contains, OnErr, OnOk};
 ghost use Rattle.std.specs.FinMap as map;
+ghost use Rattle.std.specs.List.{list_any};
 ghost use Rattle.doc_server_network.specs.Networks.{Rests, Stays};
-ghost use Rattle.doc_server_saved.specs.Saved.{IsReady, StaysSaved};
+ghost use Rattle.doc_server_network.specs.Saved.{IsReady, StaysSaved};
+ghost use Rattle.doc_server_serving.specs.Hearing.{HearsAll, SparesAll};
+ghost use Rattle.doc_server_serving.specs.Parts.{is_over_at, numbers_of, takes_part, takes_part_at, turn_of};
 ghost use Rattle.doc_server_serving.specs.Servings.{ServesAll};
 ghost use Rattle.doc_server_serving.specs.Sharing.{SharesTurn};
-ghost use Rattle.doc_server_serving.specs.Wirings.{AreWoken, Gives, LingerAll, SweptAll, WokeAt};
+ghost use Rattle.doc_server_serving.specs.Wirings.{AreWoken, Gives, IsFedAt, LingerAll, SweptAll, WokeAt, new_peer};
 
 use crate::client::Client;
 use doc_page::renderer::Renderer;
@@ -14,9 +17,10 @@ use doc_page_parts::heap::{BTreeMap, Heap, Vec};
 use doc_server_journal::device::Device;
 use doc_server_listen::share::Share;
 use doc_server_network::network::Network;
-use doc_server_saved::permit::Permit;
-use doc_server_saved::saved_hub::SavedHub;
+use doc_server_network::permit::Permit;
+use doc_server_network::saved_hub::SavedHub;
 use std::alloc::AllocError;
+use std::collections::btree_map::Range;
 use std::marker::Model;
 
 /// The clients by the numbers of their connections. Contracts see a map.
@@ -65,6 +69,17 @@ impl Peers {
         Ok(())
     }
 
+    /// Takes a client in whose connection is just being made. False: memory is lacking.
+    pub fn admit(&mut self, heap: Heap, id: u64) -> bool
+        ensures taken { result ≡ true → self.new ≡ map.insert self.old id new_peer }
+        ensures refused { result ≡ false → self.new ≡ self.old }
+    {
+        match self.insert(id, Client::new(heap)) {
+            Ok(()) => true,
+            Err(_) => false,
+        }
+    }
+
     /// Whether a client stands under this number.
     pub fn has(&self, id: u64) -> bool
         ensures { result ≡ is_some (map.get self.now id) }
@@ -92,6 +107,7 @@ impl Peers {
     /// Hands over what is pending for the clients of these numbers.
     pub fn send_all<N: Network>(&mut self, ready: &[u64], net: &mut N, permit: &Permit<'_>)
         ensures gives { Gives (N.gone net.old) (N.gone net.new) (N.has_ended net.new) self.old self.new }
+        ensures spares { SparesAll self.old self.new }
         ensures came { Rests (N.came net.old) (N.came net.new) }
         ensures woken { AreWoken (N.wakes net.old) self.old → AreWoken (N.wakes net.new) self.new }
         ensures ended { Stays (N.has_ended net.old) (N.has_ended net.new) }
@@ -105,6 +121,7 @@ impl Peers {
     /// Hands over what is pending for the client of this number, where there is one.
     fn send_at<N: Network>(&mut self, id: u64, net: &mut N, permit: &Permit<'_>)
         ensures gives { Gives (N.gone net.old) (N.gone net.new) (N.has_ended net.new) self.old self.new }
+        ensures spares { SparesAll self.old self.new }
         ensures came { Rests (N.came net.old) (N.came net.new) }
         ensures woken { AreWoken (N.wakes net.old) self.old → AreWoken (N.wakes net.new) self.new }
         ensures ended { Stays (N.has_ended net.old) (N.has_ended net.new) }
@@ -128,7 +145,8 @@ impl Peers {
     )
         ensures serves { (s : ServesAll (R.page saved.old.hub.0) saved.old.hub.1 saved.new.hub.1 ready.now
             (N.came net.old) (N.came net.new) (N.has_ended net.new) self.old self.new)
-            × SharesTurn ready.now s.run share.old share.new }
+            × SharesTurn ready.now s.run share.old share.new
+            × HearsAll ready.now s.run self.old self.new }
         ensures gone { Rests (N.gone net.old) (N.gone net.new) }
         ensures woken { AreWoken (N.wakes net.old) self.old → AreWoken (N.wakes net.new) self.new }
         ensures ended { Stays (N.has_ended net.old) (N.has_ended net.new) }
@@ -156,7 +174,8 @@ impl Peers {
     )
         ensures serves { (s : ServesAll (R.page saved.old.hub.0) saved.old.hub.1 saved.new.hub.1 (id ∷ [])
             (N.came net.old) (N.came net.new) (N.has_ended net.new) self.old self.new)
-            × SharesTurn (id ∷ []) s.run share.old share.new }
+            × SharesTurn (id ∷ []) s.run share.old share.new
+            × HearsAll (id ∷ []) s.run self.old self.new }
         ensures gone { Rests (N.gone net.old) (N.gone net.new) }
         ensures woken { AreWoken (N.wakes net.old) self.old → AreWoken (N.wakes net.new) self.new }
         ensures ended { Stays (N.has_ended net.old) (N.has_ended net.new) }
@@ -178,6 +197,7 @@ impl Peers {
     /// Ends the part of the clients of these numbers in a turn.
     pub fn finish_all<N: Network>(&mut self, ready: &[u64], net: &mut N, piece: &mut [u8])
         ensures lingers { LingerAll (N.came net.old) (N.came net.new) self.old self.new }
+        ensures spares { SparesAll self.old self.new }
         ensures gone { Rests (N.gone net.old) (N.gone net.new) }
         ensures woken { AreWoken (N.wakes net.old) self.old → AreWoken (N.wakes net.new) self.new }
         ensures ended { Stays (N.has_ended net.old) (N.has_ended net.new) }
@@ -192,6 +212,7 @@ impl Peers {
     /// Ends the part of the client of this number, where there is one.
     fn finish_at<N: Network>(&mut self, id: u64, net: &mut N, piece: &mut [u8])
         ensures lingers { LingerAll (N.came net.old) (N.came net.new) self.old self.new }
+        ensures spares { SparesAll self.old self.new }
         ensures gone { Rests (N.gone net.old) (N.gone net.new) }
         ensures woken { AreWoken (N.wakes net.old) self.old → AreWoken (N.wakes net.new) self.new }
         ensures ended { Stays (N.has_ended net.old) (N.has_ended net.new) }
@@ -207,6 +228,7 @@ impl Peers {
     /// A sweep of the clients of these numbers: those that were silent for so many seconds are to be let go.
     pub fn sweep(&mut self, numbers: &[u64], idle_seconds: u64)
         ensures swept { SweptAll self.old self.new }
+        ensures fed { (k : ℕ) → Contains numbers.now k → IsFedAt (map.get self.new k) }
     {
         'numbers: for id in numbers {
             self.sweep_at(*id, idle_seconds);
@@ -216,6 +238,7 @@ impl Peers {
     /// A sweep of the client of this number, where there is one.
     fn sweep_at(&mut self, id: u64, idle_seconds: u64)
         ensures swept { SweptAll self.old self.new }
+        ensures fed { IsFedAt (map.get self.new id) }
     {
         let Some(client) = self.clients.get_mut(&id) else {
             return;
@@ -224,7 +247,9 @@ impl Peers {
     }
 
     /// Adds the numbers of all.
-    pub fn collect_all(&self, numbers: &mut Vec<u64>) -> Result<(), AllocError> {
+    pub fn collect_all(&self, numbers: &mut Vec<u64>) -> Result<(), AllocError>
+        ensures { OnOk result (numbers.new.items ≡ numbers.old.items ++ map.keys self.now) }
+    {
         'clients: for (id, _) in &self.clients {
             numbers.push(*id)?;
         }
@@ -232,28 +257,52 @@ impl Peers {
     }
 
     /// Adds the numbers of those that take part in the turn that begins: first those from `first` on, and then the others.
-    pub fn collect(&self, first: u64, ready: &mut Vec<u64>) -> Result<(), AllocError> {
-        self.collect_some(first, true, ready)?;
-        self.collect_some(first, false, ready)
+    pub fn collect(&self, first: u64, ready: &mut Vec<u64>) -> Result<(), AllocError>
+        ensures { OnOk result (ready.new.items ≡ ready.old.items ++ turn_of first self.now) }
+    {
+        collect_of(self.clients.range(first..), ready)?;
+        collect_of(self.clients.range(..first), ready)
     }
 
-    /// Adds the numbers of those that take part, from `first` on or below it.
-    fn collect_some(
-        &self,
-        first: u64,
-        above: bool,
-        ready: &mut Vec<u64>,
-    ) -> Result<(), AllocError> {
-        'clients: for (id, client) in &self.clients {
-            if (*id >= first) == above && client.takes_part() {
-                ready.push(*id)?;
-            }
+    /// Whether one of these takes part in the next turn, be the network to tell of it or not.
+    pub fn goes_on(&self, numbers: &[u64]) -> bool
+        ensures { result ≡ list_any (λ id. takes_part_at (map.get self.now id)) numbers.now }
+    {
+        numbers.iter().any(|id| self.takes_part(*id))
+    }
+
+    /// Whether the client of this number, where there is one, takes part in the turn that begins.
+    fn takes_part(&self, id: u64) -> bool
+        ensures { result ≡ takes_part_at (map.get self.now id) }
+    {
+        match self.clients.get(&id) {
+            Some(client) => client.takes_part(),
+            None => false,
         }
-        Ok(())
+    }
+
+    /// Whether one of these is to be let go.
+    pub fn has_over(&self, numbers: &[u64]) -> bool
+        ensures { result ≡ list_any (λ id. is_over_at (map.get self.now id)) numbers.now }
+    {
+        numbers.iter().any(|id| self.is_over(*id))
+    }
+
+    /// Whether the client of this number, where there is one, is to be let go.
+    fn is_over(&self, id: u64) -> bool
+        ensures { result ≡ is_over_at (map.get self.now id) }
+    {
+        match self.clients.get(&id) {
+            Some(client) => client.is_over(),
+            None => false,
+        }
     }
 
     /// Adds the numbers of those that are to be let go.
-    pub fn collect_over(&self, gone: &mut Vec<u64>) -> Result<(), AllocError> {
+    pub fn collect_over(&self, gone: &mut Vec<u64>) -> Result<(), AllocError>
+        ensures { OnOk result (gone.new.items
+            ≡ gone.old.items ++ numbers_of (λ p. p.is_over) (map.entries self.now)) }
+    {
         'clients: for (id, client) in &self.clients {
             if client.is_over() {
                 gone.push(*id)?;
@@ -261,4 +310,16 @@ impl Peers {
         }
         Ok(())
     }
+}
+
+/// Adds the numbers of those of these clients that take part in the turn that begins.
+fn collect_of(clients: Range<'_, u64, Client>, ready: &mut Vec<u64>) -> Result<(), AllocError>
+    ensures { OnOk result (ready.new.items ≡ ready.old.items ++ numbers_of takes_part clients.entry) }
+{
+    'clients: for (id, client) in clients {
+        if client.takes_part() {
+            ready.push(*id)?;
+        }
+    }
+    Ok(())
 }

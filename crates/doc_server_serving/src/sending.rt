@@ -9,7 +9,7 @@ use doc_page_parts::bytes::Bytes;
 use doc_page_parts::heap::Heap;
 use doc_server_network::net_fault::NetFault;
 use doc_server_network::network::Network;
-use doc_server_saved::permit::Permit;
+use doc_server_network::permit::Permit;
 use std::collections::VecDeque;
 
 /// Hands replies over until all are, or the connection takes no more yet. Of the first one `sent` bytes were handed over. True: all are.

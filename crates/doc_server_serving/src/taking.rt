@@ -7,7 +7,8 @@ ghost use Rattle.doc_hub_events.specs.Events.{disconnect_on};
 ghost use Rattle.doc_server_listen.specs.Costs.{CostsAtMost, IsWithin, next_cost};
 ghost use Rattle.doc_server_listen.specs.Edits.{AreQuiet};
 ghost use Rattle.doc_server_network.specs.Networks.{Rests, RestsBut, Stays, StaysBut};
-ghost use Rattle.doc_server_saved.specs.Saved.{IsReady, StaysSaved, may_step};
+ghost use Rattle.doc_server_network.specs.Saved.{IsReady, StaysSaved, may_step};
+ghost use Rattle.doc_server_serving.specs.Hearing.{Hears, IsReader, WasHeard};
 ghost use Rattle.doc_server_serving.specs.Replies.{most_pending};
 ghost use Rattle.doc_server_serving.specs.Servings.{Answers, Serves};
 
@@ -21,7 +22,7 @@ use doc_server_listen::cost::{LIST_COST, PAGE_COST, step_cost};
 use doc_server_listen::share::Share;
 use doc_server_network::came::Came;
 use doc_server_network::network::Network;
-use doc_server_saved::saved_hub::SavedHub;
+use doc_server_network::saved_hub::SavedHub;
 
 /// How many steps a turn makes at most, where each costs what a page costs.
 const MOST_STEPS: u32 = LIST_COST;
@@ -42,7 +43,8 @@ impl Client {
     )
         ensures serves { (s : Serves (R.page saved.old.hub.0) saved.old.hub.1 saved.new.hub.1 id
             (N.came net.old id) (N.came net.new id) (N.has_ended net.new id) self.old self.new)
-            × IsWithin s.run share.old share.new }
+            × IsWithin s.run share.old share.new × Hears id s.run self.old self.new
+            × (IsReader self.old → WasHeard id s.run self.new) }
         ensures others { RestsBut id (N.came net.old) (N.came net.new) }
         ensures gone { Rests (N.gone net.old) (N.gone net.new) }
         ensures woken { (self.old.rests ≡ true → N.wakes net.old id)
@@ -57,7 +59,7 @@ impl Client {
         ensures journal { saved.new.journal ≡ saved.old.journal }
         ensures room { length piece.new ≡ length piece.old }
     {
-        if self.rests || !self.is_open() || self.has_pending() {
+        if self.is_idle() {
             return;
         }
         self.read(id, net, saved, piece);
@@ -65,6 +67,23 @@ impl Client {
             return;
         }
         self.answer(id, saved, share);
+    }
+
+    /// Whether it neither reads nor steps in this turn.
+    fn is_idle(&self) -> bool
+        ensures idle { result ≡ true → IsReader self.now → ⊥ }
+        ensures awake { result ≡ false → self.now.rests ≡ false }
+        ensures open { result ≡ false → self.now.is_open ≡ true }
+        ensures none { result ≡ false → self.now.pending ≡ [] }
+    {
+        self.rests || !self.is_open() || self.has_pending()
+    }
+
+    /// Whether what was read holds no further request.
+    fn reads(&self) -> bool
+        ensures { self.now.reads ≡ true → result ≡ true }
+    {
+        self.stage == Stage::Reads
     }
 
     /// Reads once, where a step has said that what was read holds no further request, and pushes what came.
@@ -79,7 +98,7 @@ impl Client {
         requires awake { self.old.rests ≡ false }
         ensures serves { (s : Serves (R.page saved.old.hub.0) saved.old.hub.1 saved.new.hub.1 id
             (N.came net.old id) (N.came net.new id) (N.has_ended net.new id) self.old self.new)
-            × AreQuiet s.run }
+            × AreQuiet s.run × (self.old.reads ≡ true → WasHeard id s.run self.new) }
         ensures pending { self.new.pending ≡ self.old.pending }
         ensures others { RestsBut id (N.came net.old) (N.came net.new) }
         ensures gone { Rests (N.gone net.old) (N.gone net.new) }
@@ -94,7 +113,7 @@ impl Client {
         ensures journal { saved.new.journal ≡ saved.old.journal }
         ensures room { length piece.new ≡ length piece.old }
     {
-        if self.stage != Stage::Reads {
+        if !self.reads() {
             return;
         }
         match net.read(id, piece) {

@@ -12,8 +12,17 @@ use doc_server_network::told::Told;
 pub struct News {
     /// Whether a peer may be waiting to be accepted.
     pub is_knocked: bool,
+    /// Whether a peer is gone.
+    pub is_lost: bool,
     /// Whether standard input has ended.
     pub input_has_ended: bool,
+}
+
+impl News {
+    /// A peer may be gone.
+    fn hear_loss(&mut self, is_gone: bool) {
+        self.is_lost = self.is_lost || is_gone;
+    }
 }
 
 /// Wakes the clients that the network tells of, until it has told all.
@@ -27,6 +36,7 @@ pub fn wake_told<N: Network>(peers: &mut Peers, net: &mut N) -> News
 {
     let mut news = News {
         is_knocked: false,
+        is_lost: false,
         input_has_ended: false,
     };
     'told: for _ in 0..u64::MAX {
@@ -49,6 +59,7 @@ fn wake_one<N: Network>(peers: &mut Peers, net: &mut N, news: &mut News) -> bool
     match net.told() {
         None => false,
         Some(Told::Connection { id, is_gone }) => {
+            news.hear_loss(is_gone);
             peers.wake(id, is_gone);
             true
         }

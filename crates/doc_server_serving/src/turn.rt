@@ -1,11 +1,13 @@
 //! Turns: clients are served, and nothing that a turn answers is handed over before its edits are on the device.
 
-ghost use Rattle.std.specs.Prelude.{◌≡◌, length, OnErr, OnOk};
+ghost use Rattle.std.specs.Prelude.{◌≡◌, ℕ, length, Contains, OnErr, OnOk};
+ghost use Rattle.std.specs.FinMap as map;
 ghost use Rattle.doc_hub.specs.Worlds.{World};
 ghost use Rattle.doc_server_network.specs.Networks.{Rests, Stays};
-ghost use Rattle.doc_server_saved.specs.Crashes.{CrashesLeave, RestoresEither};
-ghost use Rattle.doc_server_saved.specs.Saved.{IsAllSaved, IsReady, IsSaved, IsSettled};
-ghost use Rattle.doc_server_serving.specs.Sharing.{SharesTurn};
+ghost use Rattle.doc_server_network.specs.Crashes.{CrashesLeave, RestoresEither};
+ghost use Rattle.doc_server_network.specs.Saved.{IsAllSaved, IsReady, IsSaved, IsSettled};
+ghost use Rattle.doc_server_serving.specs.Hearing.{HeardAt, SparesAll};
+ghost use Rattle.doc_server_serving.specs.Sharing.{IsModest, SharesTurn};
 ghost use Rattle.doc_server_serving.specs.Turns.{Turns};
 ghost use Rattle.doc_server_serving.specs.Wirings.{AreWoken, Gives, GivesFronts};
 ghost use Rattle.doc_store.specs.Store.{StoreState};
@@ -16,7 +18,7 @@ use doc_page_parts::heap::Heap;
 use doc_server_journal::device::Device;
 use doc_server_listen::share::Share;
 use doc_server_network::network::Network;
-use doc_server_saved::saved_hub::SavedHub;
+use doc_server_network::saved_hub::SavedHub;
 use doc_server_settling::fault::TurnFault;
 
 /// One turn of the clients of these numbers, so many seconds behind the beginning of 1970: what is pending is handed over, they are read and
@@ -45,7 +47,9 @@ pub fn turn<N: Network, D: Device, R: Renderer + Drop>(
         (RestoresEither config begin saved.new.hub.1) saved.old.journal saved.new.journal }
     ensures turns { (s : Turns (R.page saved.old.hub.0) saved.old.hub.1 saved.new.hub.1 ready.now
         (N.came net.old) (N.came net.new) (N.gone net.old) (N.gone net.new) peers.old peers.new)
-        × SharesTurn ready.now s.run share.old share.new }
+        × SharesTurn ready.now s.run share.old share.new × IsModest ready.now s.run
+        × ((k : ℕ) → Contains ready.now k
+        → HeardAt k s.run (map.get peers.old k) (map.get peers.new k)) }
     ensures waits { OnErr result (GivesFronts (N.gone net.old) (N.gone net.new) peers.old) }
     ensures woken { AreWoken (N.wakes net.old) peers.old → AreWoken (N.wakes net.new) peers.new }
     ensures ended { Stays (N.has_ended net.old) (N.has_ended net.new) }
@@ -70,6 +74,7 @@ fn send_settled<N: Network, D: Device, R: Renderer + Drop>(
 )
     requires all { IsAllSaved saved.now }
     ensures gives { Gives (N.gone net.old) (N.gone net.new) (N.has_ended net.new) peers.old peers.new }
+    ensures spares { SparesAll peers.old peers.new }
     ensures came { Rests (N.came net.old) (N.came net.new) }
     ensures woken { AreWoken (N.wakes net.old) peers.old → AreWoken (N.wakes net.new) peers.new }
     ensures ended { Stays (N.has_ended net.old) (N.has_ended net.new) }

@@ -1,2 +1,1 @@
 mod Reserving
-mod Settlements

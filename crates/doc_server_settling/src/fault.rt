@@ -28,7 +28,7 @@ impl From<Memory> for TurnFault {
 
 impl From<AppendError> for TurnFault {
     ghost use Rattle.std.specs.Prelude.{◌≡◌};
-    ghost use Rattle.doc_server_settling.specs.Settling.{of_append};
+    ghost use Rattle.doc_server_settling.specs.Faults.{of_append};
 
     ghost from_gives = { λ e fault. fault ≡ of_append e };
 

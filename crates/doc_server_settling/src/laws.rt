@@ -1,5 +1,5 @@
 //! Laws of the room that a journal keeps, as contracts of functions that do nothing. A server whose hub has no more pages than may stand
-//! keeps `HasRoomFor` from turn to turn by `settled_turn` and `keep_reserve`, once its journal kept the reserve.
+//! keeps `HasRoomFor` from turn to turn by `SavedHub::settle` and `keep_reserve`, once its journal kept the reserve.
 
 ghost use Rattle.doc_server_settling.specs.Reserves.{RemovalsHaveRoom, ReserveIsEnough, TurnsHaveRoom};
 

@@ -1,8 +1,6 @@
-//! Turns of a server with a journal: the edits of a turn are on the journal's device before its replies are handed over. It is a crate of
-//! its own, since the gate's edit of that order proves it once more, and not all turns. Between turns it sees to the journal's room.
+//! The room that a journal keeps for turns to come, so that no turn lacks it, and why a turn ends a server.
 #![tactic(auto)]
 
 pub mod fault;
 pub mod laws;
 pub mod reserve;
-pub mod settling;

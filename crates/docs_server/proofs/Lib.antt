@@ -1,2 +1,1 @@
-mod CountSteps
 mod StoreSteps

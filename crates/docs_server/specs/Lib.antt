@@ -1,4 +1,3 @@
-pub mod Arguments
 pub mod Compacting
 pub mod Listening
 pub mod Moving

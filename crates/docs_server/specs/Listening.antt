@@ -9,8 +9,8 @@ use Rattle.doc_server_config.specs.Configurations.{config_of_document}
 use Rattle.doc_server_config.specs.Overlaps.{first_overlap, paths_of}
 use Rattle.doc_server_streams.specs.declared.fault.Fault.{Fault}
 use Rattle.doc_server_streams.specs.declared.fault.Fault.TheVariants as faults
-use Rattle.doc_server_poll.specs.declared.fault.PollFault.{PollFault}
-use Rattle.doc_server_poll.specs.declared.fault.PollFault.TheVariants as poll_faults
+use Rattle.doc_server_serving.specs.declared.fault.ServeFault.{ServeFault}
+use Rattle.doc_server_serving.specs.declared.fault.ServeFault.TheVariants as serve_faults
 
 -- a page of a folder, as one of the configuration
 abbrev pub row_of : FolderPage → PageRow
@@ -37,7 +37,7 @@ pub record HasOwnPaths (config : SiteConfig) : Type 0 where
   pub others : HasOthers own.pages config.pages
 
 -- where the server doesn't run
-abbrev pub poll_fault_of : PollFault → Fault
-poll_fault_of poll_faults.Socket = faults.Socket
-poll_fault_of poll_faults.CannotWrite = faults.CannotWrite
-poll_fault_of poll_faults.Memory = faults.Memory
+abbrev pub serve_fault_of : ServeFault → Fault
+serve_fault_of serve_faults.Socket = faults.Socket
+serve_fault_of serve_faults.CannotWrite = faults.CannotWrite
+serve_fault_of serve_faults.Memory = faults.Memory

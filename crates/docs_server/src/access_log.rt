@@ -1,46 +1,16 @@
 //! The log of requests: a line on standard error for each that was answered. No field of a request stands in it, and so no token.
 
-ghost use Rattle.std.specs.Prelude.{◌≡◌};
-ghost use Rattle.doc_server_poll.specs.Keepings.{IsReady};
-ghost use Rattle.doc_server_poll.specs.Servers.{Leads};
-
 use crate::unanswered::Unanswered;
-use doc_hub::event::ConnId;
-use doc_hub::hub::Hub;
-use doc_page::renderer::Renderer;
 use doc_page_parts::failure::Memory;
 use doc_page_parts::heap::{BTreeMap, Heap, String};
-use doc_server_journal::device::Device;
-use doc_server_poll::fault::PollFault;
-use doc_server_poll::keeping::{Keeping, NamedFile};
-use doc_server_poll::server::Server;
-use doc_server_poll::watch::{Handed, Unwatched, Watch};
+use doc_server_network::handed::Handed;
+use doc_server_network::watch::Watch;
 use std::fmt::Write;
 use std::rt::Clock;
 use std::time::Instant;
 
 /// From how many bytes on the lines of a turn are printed before it is told whole.
 const MOST_BYTES: usize = 16_384;
-
-/// Serves, and logs what is asked where that is wanted.
-pub fn serve_logging<D: Device + NamedFile, T: Renderer + Drop, P: Clock + Eprint>(
-    rt: &P,
-    heap: Heap,
-    is_logged: bool,
-    server: &mut Server,
-    keeping: &mut Keeping<D>,
-    hub: &mut Hub<T>,
-) -> Result<(), PollFault>
-    requires ready { IsReady D.seen D.may_leave D.failed D.stale keeping.old }
-    ensures leads { Leads (T.page hub.old.0) hub.old.1 hub.new.1 }
-    ensures same { T.page hub.new.0 ≡ T.page hub.old.0 }
-{
-    if is_logged {
-        let mut log = AccessLog::new(rt, heap);
-        return server.serve(rt, keeping, hub, &mut log);
-    }
-    server.serve(rt, keeping, hub, &mut Unwatched)
-}
 
 /// The log of a server. Where memory is lacking for what came on a connection, nothing more of it is written; where it is lacking for a
 /// line, or a line can't be printed, that line is dropped.
@@ -53,8 +23,8 @@ pub struct AccessLog<'a, P> {
     line: String,
     /// The lines of the turn that is told.
     lines: String,
-    /// When its first reply was told.
-    told: Option<Instant>,
+    /// When it began.
+    began: Option<Instant>,
 }
 
 impl<'a, P: Clock + Eprint> AccessLog<'a, P> {
@@ -66,28 +36,19 @@ impl<'a, P: Clock + Eprint> AccessLog<'a, P> {
             unanswered: BTreeMap::new(heap),
             line: String::new(heap),
             lines: String::new(heap),
-            told: None,
+            began: None,
         }
-    }
-
-    /// The time at which the turn's replies had been handed over.
-    fn now(&mut self) -> Option<Instant> {
-        if self.told.is_none() {
-            self.told = Instant::now(self.rt).ok();
-        }
-        self.told
     }
 
     /// Adds the line of a reply to the next request of this connection.
-    fn add_line(&mut self, id: ConnId, reply: Handed) -> Result<(), Memory> {
-        let now = self.now();
-        let Some(unanswered) = self.unanswered.get_mut(&id.0) else {
+    fn add_line(&mut self, id: u64, reply: Handed) -> Result<(), Memory> {
+        let Some(unanswered) = self.unanswered.get_mut(&id) else {
             return Ok(());
         };
         self.line.clear();
-        write!(self.line, "{} ", id.0)?;
+        write!(self.line, "{id} ")?;
         unanswered.take(&mut self.line)?;
-        let micros = now.map_or(0, |now| unanswered.waited(now));
+        let micros = Instant::now(self.rt).map_or(0, |now| unanswered.waited(now));
         write!(self.line, " {} {} {}\n", reply.code, reply.bytes, micros)?;
         let _ = self.lines.push_str(self.line.as_str());
         Ok(())
@@ -104,24 +65,24 @@ impl<'a, P: Clock + Eprint> AccessLog<'a, P> {
 }
 
 impl<P: Clock + Eprint> Watch for AccessLog<'_, P> {
-    fn is_watching(&self) -> bool {
-        true
+    fn begin_turn(&mut self) {
+        self.began = Instant::now(self.rt).ok();
     }
 
-    fn joined(&mut self, id: ConnId) {
-        let _ = self.unanswered.insert(id.0, Unanswered::new(self.heap));
+    fn joined(&mut self, id: u64) {
+        let _ = self.unanswered.insert(id, Unanswered::new(self.heap));
     }
 
-    fn came(&mut self, id: ConnId, bytes: &[u8], began: Instant) {
-        let Some(unanswered) = self.unanswered.get_mut(&id.0) else {
+    fn came(&mut self, id: u64, bytes: &[u8]) {
+        let Some(unanswered) = self.unanswered.get_mut(&id) else {
             return;
         };
-        if unanswered.add(bytes, began).is_err() {
+        if unanswered.add(bytes, self.began).is_err() {
             self.left(id);
         }
     }
 
-    fn answered(&mut self, id: ConnId, reply: Handed) {
+    fn answered(&mut self, id: u64, reply: Handed) {
         if self.add_line(id, reply).is_err() {
             self.left(id);
         }
@@ -130,12 +91,11 @@ impl<P: Clock + Eprint> Watch for AccessLog<'_, P> {
         }
     }
 
-    fn left(&mut self, id: ConnId) {
-        let _ = self.unanswered.remove(&id.0);
+    fn left(&mut self, id: u64) {
+        let _ = self.unanswered.remove(&id);
     }
 
     fn end_turn(&mut self) {
         self.print();
-        self.told = None;
     }
 }

@@ -1,6 +1,5 @@
 //! The command `compact`: a journal is written anew, of the site that its edits lead to.
 
-use crate::arguments::Compact;
 use crate::bounded::{Bounded, read_bounded};
 use crate::files::{Pages, Site};
 use crate::held::hold;
@@ -13,6 +12,7 @@ use crate::told_folders::tell_passed;
 use crate::torn::TornFile;
 use doc_page_parts::heap::Heap;
 use doc_page_parts::list::List;
+use doc_server_arguments::command::Compact;
 use doc_server_compacting::compacting::compact_file;
 use doc_server_config::readme::Move;
 use doc_server_journal::clock::seconds_of;

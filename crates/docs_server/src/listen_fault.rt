@@ -6,11 +6,12 @@ use doc_server_compacting::fault::CompactingFault;
 use doc_server_config::bad_file::BadFile;
 use doc_server_config::browsing::BrowseError;
 use doc_server_config::listening::ListeningError;
+use doc_server_hosting::fault::HostingFault;
 use doc_server_journal::fault::OpenFault;
 use doc_server_journal::file_fault::FileFault;
-use doc_server_poll::fault::PollFault;
 use doc_server_restore::compact_fault::CompactFault;
 use doc_server_restore::fault::RestoreFault;
+use doc_server_serving::fault::ServeFault;
 use doc_server_streams::fault::Fault;
 use std::alloc::AllocError;
 use thiserror::Error;
@@ -100,19 +101,31 @@ impl From<RestoreFault> for ListenFault {
     }
 }
 
-impl From<PollFault> for ListenFault {
+impl From<ServeFault> for ListenFault {
     ghost use Rattle.std.specs.Prelude.{◌≡◌};
     ghost use Rattle.docs_server.specs.declared.listen_fault.ListenFault.TheVariants as faults;
-    ghost use Rattle.docs_server.specs.Listening.{poll_fault_of};
+    ghost use Rattle.docs_server.specs.Listening.{serve_fault_of};
 
-    ghost from_gives = { λ fault stop. stop ≡ faults.Command (poll_fault_of fault) };
+    ghost from_gives = { λ fault stop. stop ≡ faults.Command (serve_fault_of fault) };
 
-    fn from(fault: PollFault) -> ListenFault {
+    fn from(fault: ServeFault) -> ListenFault {
         ListenFault::Command(match fault {
-            PollFault::Socket => Fault::Socket,
-            PollFault::CannotWrite => Fault::CannotWrite,
-            PollFault::Memory => Fault::Memory,
+            ServeFault::Socket => Fault::Socket,
+            ServeFault::CannotWrite => Fault::CannotWrite,
+            ServeFault::Memory => Fault::Memory,
         })
+    }
+}
+
+impl From<HostingFault<ListenFault>> for ListenFault {
+    fn from(fault: HostingFault<ListenFault>) -> ListenFault {
+        match fault {
+            HostingFault::Host(fault) => fault,
+            HostingFault::Journal(fault) => ListenFault::Journal(fault),
+            HostingFault::Restore(fault) => ListenFault::Restore(fault),
+            HostingFault::NoRoom => ListenFault::NoRoom,
+            HostingFault::Serve(fault) => ListenFault::from(fault),
+        }
     }
 }
 

@@ -6,13 +6,12 @@ mod arguments;
 mod bounded;
 mod commands;
 mod compacting;
+mod ended;
 mod files;
 mod folder_rows;
 mod gathered_media;
 mod held;
-mod journal;
 mod listen_fault;
-mod listen_options;
 mod listening;
 mod moving;
 mod named_device;
@@ -21,12 +20,13 @@ mod serving;
 mod site_store;
 mod sites;
 mod status;
+mod system;
 mod system_place;
 mod told_folders;
 mod torn;
 mod unanswered;
 
-use crate::arguments::{Command, command_of, words_of};
+use crate::arguments::words_of;
 use crate::commands::{run_demo, run_examples, run_render};
 use crate::compacting::run_compact;
 use crate::listening::run_listen;
@@ -34,7 +34,12 @@ use crate::serving::run_serve;
 use crate::sites::{run_check, run_replay};
 use crate::status::status_of;
 use crate::told_folders::run_folders;
+use doc_server_arguments::command::Command;
+use doc_server_arguments::command_line::command_of;
+use doc_server_arguments::help::HELP;
+use doc_server_arguments::version::VersionLines;
 use doc_server_streams::fault::Fault;
+use std::fmt::Display;
 use std::fs::File;
 use std::marker::Brand;
 use std::net::{Net, TcpListener, TcpStream};
@@ -43,11 +48,11 @@ use std::rt::{Clock, Env, Files};
 use std::sync::ledger::Blank;
 
 fn main(rt: HostRuntime) -> ExitCode {
-    ExitCode::from(status_of(&rt, run(&rt)))
+    ExitCode::from(run(&rt))
 }
 
-/// Runs the command that the arguments name, and answers the status to end with.
-fn run<R>(rt: &R) -> Result<u8, Fault>
+/// Runs the command that the arguments ask for, and answers the status to end with.
+fn run<R>(rt: &R) -> u8
 where
     R: AllocGlobal
         + Clock
@@ -60,8 +65,30 @@ where
         + Net<Listener = TcpListener, Stream = TcpStream>
         + Print,
 {
-    let words = words_of(rt, rt.alloc())?;
-    match command_of(&words)? {
+    let words = match words_of(rt, rt.alloc()) {
+        Ok(words) => words,
+        Err(fault) => return status_of::<R, Fault>(rt, Err(fault)),
+    };
+    match command_of(&words) {
+        Ok(command) => status_of(rt, run_command(rt, command)),
+        Err(fault) => status_of(rt, Err(fault)),
+    }
+}
+
+/// Runs a command, and answers the status to end with.
+fn run_command<R>(rt: &R, command: Command<'_>) -> Result<u8, Fault>
+where
+    R: AllocGlobal
+        + Clock
+        + Clone
+        + Drop
+        + Eprint
+        + Files<File = File>
+        + Input
+        + Net<Listener = TcpListener, Stream = TcpStream>
+        + Print,
+{
+    match command {
         Command::Demo => run_demo::<Brand, R>(rt, Blank::new(1)),
         Command::Render => run_render(rt),
         Command::Examples(file) => run_examples(rt, file),
@@ -71,5 +98,15 @@ where
         Command::Listen(listen) => Ok(run_listen::<Brand, R>(rt, Blank::new(1), &listen)),
         Command::Compact(compact) => Ok(run_compact(rt, &compact)),
         Command::Folders(config) => Ok(run_folders(rt, config)),
+        Command::Version => told(rt, &VersionLines),
+        Command::Help => told(rt, &HELP),
+    }
+}
+
+/// Prints a text and a line feed.
+fn told<P: Print, D: Display>(rt: &P, text: &D) -> Result<u8, Fault> {
+    match println!(rt; "{text}") {
+        Ok(()) => Ok(0),
+        Err(_) => Err(Fault::CannotWrite),
     }
 }

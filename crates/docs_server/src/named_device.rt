@@ -4,12 +4,12 @@ ghost use Rattle.std.specs.Prelude.{◌≡◌, false, IfOk};
 ghost use Rattle.docs_server.specs.NamedDevices.{has_failed};
 
 use doc_page_parts::bytes::Bytes;
-use doc_page_parts::heap::Heap;
+use doc_page_parts::heap::{Heap, String};
 use doc_server_journal::device::Device;
 use doc_server_journal::fault::{DeviceFault, LoadError};
 use doc_server_journal::file_device::FileDevice;
 use doc_server_journal::file_fault::FileFault;
-use doc_server_poll::keeping::NamedFile;
+use doc_server_serving::named_file::NamedFile;
 use std::fs::{File, Metadata, metadata};
 use std::os::unix::fs::MetadataExt;
 use std::rt::Files;
@@ -19,7 +19,7 @@ use std::rt::Files;
 #[derive(Drop)]
 pub struct NamedDevice<'a, P> {
     rt: &'a P,
-    name: &'a str,
+    name: String,
     /// The numbers of the file's device and of the file on it.
     place: (u64, u64),
     /// How many bytes it has at least.
@@ -30,14 +30,14 @@ pub struct NamedDevice<'a, P> {
 
 impl<'a, P: Files<File = File>> NamedDevice<'a, P> {
     /// Opens the file of this name, as [`FileDevice::open`] does.
-    pub fn open(rt: &'a P, name: &'a str) -> Result<NamedDevice<'a, P>, FileFault>
+    pub fn open(rt: &'a P, heap: Heap, name: &str) -> Result<NamedDevice<'a, P>, FileFault>
         ensures { IfOk result (λ device. has_failed device ≡ false) }
     {
         let device = FileDevice::open(rt, name)?;
         let found = metadata(rt, name)?;
         Ok(NamedDevice {
             rt,
-            name,
+            name: String::from_str(heap, name)?,
             place: place_of(&found),
             len: found.len(),
             device,
@@ -48,7 +48,7 @@ impl<'a, P: Files<File = File>> NamedDevice<'a, P> {
 
 impl<P: Eprint + Files<File = File>> NamedFile for NamedDevice<'_, P> {
     fn is_found(&self) -> bool {
-        match metadata(self.rt, self.name) {
+        match metadata(self.rt, self.name.as_str()) {
             Ok(found) => place_of(&found) == self.place && found.len() >= self.len,
             Err(_) => false,
         }

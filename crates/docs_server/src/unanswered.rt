@@ -24,9 +24,9 @@ impl Unanswered {
         }
     }
 
-    /// Adds bytes that came in a turn which began then.
-    pub fn add(&mut self, bytes: &[u8], began: Instant) -> Result<(), Memory> {
-        self.began = Some(began);
+    /// Adds bytes that came in a turn which began then, where that is known.
+    pub fn add(&mut self, bytes: &[u8], began: Option<Instant>) -> Result<(), Memory> {
+        self.began = began;
         self.unread.push(bytes)
     }
 

@@ -1,4 +1,4 @@
-//! Tries a server that accepts while it serves (`doc_server_poll`), over TCP, as `trial` says. The program is its own client: a call
+//! Tries a server that accepts while it serves (`doc_server_serving`), over TCP, as `trial` says. The program is its own client: a call
 //! alternates between turns of the server and what the peers write and read, until what it waits for has come, so that its answer is
 //! the same whatever the timing.
 //!
@@ -16,12 +16,12 @@ ghost use Rattle.std.specs.Prelude.{◌≡◌, ◌<◌};
 
 mod calls;
 mod files;
-mod journals;
+pub mod journals;
 mod peer;
 mod rooms;
-mod scene;
-mod served;
-mod told;
+pub mod scene;
+pub mod served;
+pub mod told;
 
 use crate::listen::calls::answer;
 use crate::listen::files::files_called;

@@ -1,6 +1,7 @@
 //! Tries the calls of `doc_http` and of `doc_hub`, and the commands `demo`, `render` and `examples`, as `trial` says. A line `world` begins
 //! a new world, of which the calls below it are; the lines in front of the first one are of commands and streams (`programs`). Behind a
-//! line `listening` come those of servers that accept while they serve, and of journals (`listen`).
+//! line `listening` come those of servers that accept while they serve, and of journals (`listen`), and behind a line `serving` those of
+//! servers, turns and compactions in memory (`serving`).
 //!
 //! - `world keep CACHE READERS` makes a hub with the readers of a TOML text, and `world close CACHE READERS` one that keeps no connection
 //!   alive. It answers `()`, or what refuses it; then no calls follow.
@@ -31,6 +32,7 @@ mod programs;
 mod requests;
 mod scene;
 mod scripts;
+mod serving;
 mod sink;
 mod stop;
 mod streams;
@@ -45,6 +47,7 @@ use doc_lines::entities::Entities;
 use doc_page::renderer::Renderer;
 use listen::run_servers;
 use programs::Programs;
+use serving::run_serving;
 use std::fs::File;
 use std::io;
 use std::marker::Brand;
@@ -71,7 +74,12 @@ fn run<P: AllocGlobal + Clock + Files<File = File> + Net + Print>(
     };
     run_worlds(rt, worlds)?;
     println!(rt; "listening")?;
-    run_servers(rt, servers)
+    let Some((servers, calls)) = servers.split_once("\nserving\n") else {
+        return run_servers(rt, servers);
+    };
+    run_servers(rt, servers)?;
+    println!(rt; "serving")?;
+    run_serving(rt, calls)
 }
 
 /// Prints what the lines in front of the first world answer, and then those of each world.

@@ -79,7 +79,7 @@ fn begun_with<'a>(line: &'a str, file: &'a [u8]) -> (&'a str, &'a [u8]) {
     }
 }
 
-fn bounds_of(line: &str) -> Option<Bounds> {
+pub fn bounds_of(line: &str) -> Option<Bounds> {
     let (connections, rest) = line.split_once(' ')?;
     let (idle, rest) = rest.split_once(' ')?;
     let (calls, most) = rest.split_once(' ')?;
@@ -91,7 +91,7 @@ fn bounds_of(line: &str) -> Option<Bounds> {
     })
 }
 
-fn new_hub<R: Renderer + Drop>(heap: Heap, renderer: R) -> Option<Hub<R>> {
+pub fn new_hub<R: Renderer + Drop>(heap: Heap, renderer: R) -> Option<Hub<R>> {
     let Ok(readers) = Readers::from_toml(heap, READERS) else {
         return None;
     };

@@ -4,7 +4,7 @@ ghost use Rattle.std.specs.Prelude.{◌≡◌, List, ℕ, [], false, IfSome};
 ghost use Rattle.doc_server_journal.specs.Devices.{IsFresh};
 ghost use Rattle.doc_server_journal.specs.Journals.{IsOpen};
 ghost use Rattle.doc_server_journal.specs.Memories.{has_failed, memory_leaves, memory_seen, memory_stale};
-ghost use Rattle.doc_server_poll.specs.Keepings.{IsReady};
+ghost use Rattle.doc_server_network.specs.Saved.{IsAllSaved, IsReady};
 
 use doc_hub::hub::Hub;
 use doc_page::renderer::Renderer;
@@ -16,12 +16,13 @@ use doc_server_journal::memory::MemoryDevice;
 use doc_server_journal::opening::Opened;
 use doc_server_journal::torn::Unkept;
 use doc_server_journal_records::header::Identity;
-use doc_server_poll::fault::PollFault;
-use doc_server_poll::keeping::Keeping;
-use doc_server_poll::server::Server;
-use doc_server_poll::watch::Unwatched;
+use doc_server_network::mio_network::MioNetwork;
+use doc_server_network::saved_hub::SavedHub;
 use doc_server_restore::edits::Edits;
 use doc_server_restore::restore::restore;
+use doc_server_serving::fault::ServeFault;
+use doc_server_serving::room::keep_room;
+use doc_server_serving::server::Server;
 use doc_server_settling::reserve::{RESERVE, SPARE};
 use std::marker::Model;
 use std::net::{Ipv4Addr, Net, SocketAddr};
@@ -41,21 +42,22 @@ pub struct Bounds {
 #[derive(Drop)]
 pub struct Served<R: Renderer + Drop> {
     server: Server,
-    keeping: Keeping<MemoryDevice>,
-    hub: Hub<R>,
-    fault: Option<PollFault>,
+    net: MioNetwork,
+    saved: SavedHub<MemoryDevice, R>,
+    fault: Option<ServeFault>,
 }
 
 impl<R: Renderer + Drop> Model for Served<R> {
     ghost use Rattle.std.specs.Prelude.{◌≡◌, ⊤, None};
     ghost use Rattle.doc_server_journal.specs.Memories.{has_failed, memory_leaves, memory_seen, memory_stale};
-    ghost use Rattle.doc_server_poll.specs.Keepings.{IsReady};
+    ghost use Rattle.doc_server_network.specs.Saved.{IsAllSaved, IsReady};
 
     ghost Value = { ⊤ };
 
     ghost view = { λ _. tt };
 
-    ghost invariant = { λ s. s.fault ≡ None → IsReady memory_seen memory_leaves has_failed memory_stale s.keeping };
+    ghost invariant = { λ s. s.fault ≡ None
+        → IsReady memory_seen memory_leaves has_failed memory_stale s.saved × IsAllSaved s.saved };
 }
 
 impl<R: Renderer + Drop> Served<R> {
@@ -67,23 +69,25 @@ impl<R: Renderer + Drop> Served<R> {
         bounds: Bounds,
         file: &[u8],
     ) -> Option<Served<R>> {
-        let mut hub = hub;
-        let (server, keeping) = parts_of(rt, heap, &mut hub, bounds, file)?;
+        let saved = saved_of(heap, hub, bounds, file)?;
+        let address = SocketAddr::from((Ipv4Addr::LOCALHOST, 0));
+        let net = MioNetwork::bind(rt, heap, address, false).ok()?;
+        let server = Server::new(rt, heap, bounds.connections, bounds.idle_seconds).ok()?;
         Some(Served {
             server,
-            keeping,
-            hub,
+            net,
+            saved,
             fault: None,
         })
     }
 
     /// The address that it listens at.
     pub fn address(&self) -> Option<SocketAddr> {
-        self.server.address()
+        self.net.address()
     }
 
     /// Why it serves no more.
-    pub fn fault(&self) -> Option<PollFault> {
+    pub fn fault(&self) -> Option<ServeFault> {
         self.fault
     }
 
@@ -92,10 +96,7 @@ impl<R: Renderer + Drop> Served<R> {
         if self.fault.is_some() {
             return false;
         }
-        let turn = self
-            .server
-            .turn(rt, &mut self.keeping, &mut self.hub, &mut Unwatched);
-        match turn {
+        match self.server.turn(rt, &mut self.net, &mut self.saved) {
             Ok(_) => true,
             Err(fault) => {
                 self.fault = Some(fault);
@@ -106,70 +107,60 @@ impl<R: Renderer + Drop> Served<R> {
 
     /// What the journal's file holds.
     pub fn journal_bytes(&self) -> &[u8] {
-        match &self.keeping {
-            Keeping::Forgets => &[],
-            Keeping::Keeps(journal) => journal.device.bytes(),
+        match self.saved.device() {
+            Some(device) => device.bytes(),
+            None => &[],
         }
     }
 }
 
-/// A server without clients, and the journal of a file in memory, whose edits are made on the hub.
-fn parts_of<P: Clock + Net, R: Renderer + Drop>(
-    rt: &P,
+/// A hub on which the edits of the journal of a file in memory are made, and which keeps its further edits there. The journal gets its room.
+fn saved_of<R: Renderer + Drop>(
     heap: Heap,
-    hub: &mut Hub<R>,
+    hub: Hub<R>,
     bounds: Bounds,
     file: &[u8],
-) -> Option<(Server, Keeping<MemoryDevice>)>
-    ensures { IfSome result (λ parts. IsReady memory_seen memory_leaves has_failed memory_stale parts.1) }
+) -> Option<SavedHub<MemoryDevice, R>>
+    ensures { IfSome result (λ saved. IsReady memory_seen memory_leaves has_failed memory_stale saved
+        × IsAllSaved saved) }
 {
-    let keeping = keeping_of(heap, hub, bounds, file)?;
-    let address = SocketAddr::from((Ipv4Addr::LOCALHOST, 0));
-    match Server::bind(
-        rt,
-        heap,
-        address,
-        bounds.connections,
-        bounds.idle_seconds,
-        false,
-    ) {
-        Ok(server) => Some((server, keeping)),
+    let mut saved = saved_over(heap, hub, bounds, file)?;
+    match keep_room(heap, &mut saved, RESERVE + SPARE) {
+        Ok(()) => Some(saved),
         Err(_) => None,
     }
 }
 
-/// The journal of a file in memory. Its edits are made on the hub, and it gets its room.
-fn keeping_of<R: Renderer + Drop>(
+/// The same, with the room that the file has.
+pub fn saved_over<R: Renderer + Drop>(
     heap: Heap,
-    hub: &mut Hub<R>,
+    hub: Hub<R>,
     bounds: Bounds,
     file: &[u8],
-) -> Option<Keeping<MemoryDevice>>
-    ensures { IfSome result (IsReady memory_seen memory_leaves has_failed memory_stale) }
+) -> Option<SavedHub<MemoryDevice, R>>
+    ensures { IfSome result (λ saved. IsReady memory_seen memory_leaves has_failed memory_stale saved
+        × IsAllSaved saved) }
 {
-    let mut keeping = kept_journal(heap, hub, bounds, file)?;
-    match keeping.keep_reserve(hub, RESERVE + SPARE) {
-        Ok(()) => Some(keeping),
-        Err(_) => None,
-    }
+    let mut hub = hub;
+    let journal = journal_of(heap, &mut hub, bounds, file)?;
+    Some(SavedHub::over(heap, hub, journal))
 }
 
-/// The same, with the room that it has.
-fn kept_journal<R: Renderer + Drop>(
+/// The journal of a file in memory, whose edits are made on the hub.
+fn journal_of<R: Renderer + Drop>(
     heap: Heap,
     hub: &mut Hub<R>,
     bounds: Bounds,
     file: &[u8],
-) -> Option<Keeping<MemoryDevice>>
-    ensures { IfSome result (IsReady memory_seen memory_leaves has_failed memory_stale) }
+) -> Option<Journal<MemoryDevice>>
+    ensures { IfSome result (λ journal. (texts : List (List ℕ))
+        × IsOpen memory_seen memory_leaves has_failed memory_stale journal texts) }
 {
     let device = device_of(heap, bounds, file)?;
-    let journal = if file.is_empty() {
-        make_journal(heap, device)?
-    } else {
-        open_journal(heap, device, file.len(), hub)?
-    };
-    Some(Keeping::Keeps(journal))
+    if file.is_empty() {
+        return make_journal(heap, device);
+    }
+    open_journal(heap, device, file.len(), hub)
 }
 
 /// A new journal on an empty device.
@@ -208,7 +199,7 @@ fn open_journal<D: Device + Drop, E: Edits>(
     }
 }
 
-/// A file in memory, with these bounds.
+/// A file in memory, with these bounds, a sync of which loses what was written where it fails.
 fn device_of(heap: Heap, bounds: Bounds, file: &[u8]) -> Option<MemoryDevice>
     ensures usable { IfSome result (λ device. has_failed device ≡ false) }
     ensures fresh { IfSome result (λ device. IsFresh (memory_stale device)) }
@@ -217,7 +208,17 @@ fn device_of(heap: Heap, bounds: Bounds, file: &[u8]) -> Option<MemoryDevice>
         return None;
     };
     match MemoryDevice::new(heap, bytes, bounds.calls, bounds.most) {
-        Ok(device) => Some(device),
+        Ok(device) => Some(losing(device)),
         Err(_) => None,
     }
+}
+
+/// The same file, a sync of which loses what was written where it fails.
+fn losing(device: MemoryDevice) -> MemoryDevice
+    ensures usable { has_failed result ≡ has_failed device }
+    ensures fresh { IsFresh (memory_stale device) → IsFresh (memory_stale result) }
+{
+    let mut device = device;
+    device.lose_at_failed_syncs();
+    device
 }

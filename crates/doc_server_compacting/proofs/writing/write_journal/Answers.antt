@@ -6,6 +6,9 @@ returns-clause-written g c =
     let is = c.in_ok-journal.ensures in (
       is.records,
       c.in_ok-make_reserve.ensures.open is.records is.is_open,
-      λ of_config of_site. written_gives g.D.Device.seen g.D.Device.may_leave g.D.Device.failed g.D.Device.stale c.in_ok-journal.journal
-          c.args.config.now c.args.site.now.site c.a_compaction_is_restored.ensures is c.in_ok-has_stamps.ensures of_config of_site,
+      (
+        is.lines,
+        λ of_config of_site. written_gives g.D.Device.seen g.D.Device.may_leave g.D.Device.failed g.D.Device.stale c.in_ok-journal.journal
+            c.args.config.now c.args.site.now.site c.a_compaction_is_restored.ensures is c.in_ok-has_stamps.ensures of_config of_site,
+      ),
     )

@@ -3,6 +3,7 @@ use Rattle.std.proofs.Math.Seq.{take-length}
 use Rattle.std.proofs.lemmas.List.{take_more}
 use Rattle.doc_server_serving.specs.Turns.{Turns}
 use Rattle.doc_server_serving.proofs.LeavingSteps.{leaves_nobody, turns_join}
+use Rattle.doc_server_serving.proofs.Sites.{same_join, same_site}
 use Rattle.doc_server_serving.proofs.letting_go.let_go.Goals as goal
 
 pub numbers-init : goal.numbers-init
@@ -14,6 +15,7 @@ numbers-init g c = record {
   ended = λ k e. e;
   free = λ k f. f;
   same = refl;
+  site = same_site c.args.saved.now.hub.1;
   saved = λ config begin is. is;
   ready = λ is. is;
   journal = refl;
@@ -36,6 +38,8 @@ numbers-preserved g c =
       ended = λ k e. c.let_one_go.ensures.ended k (c.numbers.invariant.ended k e);
       free = λ k f. c.let_one_go.ensures.free k (c.numbers.invariant.free k f);
       same = c.let_one_go.ensures.same ∙ c.numbers.invariant.same;
+      site = same_join c.args.saved.now.hub.1 c.numbers.saved.hub.1 c.let_one_go.new.saved.hub.1 c.numbers.invariant.site
+          c.let_one_go.ensures.site;
       saved = λ config begin is. c.let_one_go.ensures.saved config begin (c.numbers.invariant.saved config begin is);
       ready = λ is. c.let_one_go.ensures.ready (c.numbers.invariant.ready is);
       journal = c.let_one_go.ensures.journal ∙ c.numbers.invariant.journal;

@@ -1,6 +1,7 @@
 use Rattle.std.proofs.Common.{◌≡◌, take}
 use Rattle.doc_server_network.specs.Networks.{Stays}
-use Rattle.doc_server_saved.specs.Saved.{IsReady, StaysSaved}
+use Rattle.doc_server_network.specs.Saved.{IsReady, StaysSaved}
+use Rattle.doc_server_serving.specs.Sites.{IsSameSite}
 use Rattle.doc_server_serving.specs.Turns.{Turns}
 use Rattle.doc_server_serving.specs.Wirings.{AreWoken}
 use Rattle.doc_server_serving.proofs.letting_go.let_go.Given as goal
@@ -13,6 +14,7 @@ invariant-numbers g l = record {
   ended : Stays (g.N.Network.has_ended l.fn.net) (g.N.Network.has_ended l.net);
   free : Stays (g.N.Network.is_free l.fn.net) (g.N.Network.is_free l.net);
   same : g.R.Renderer.page l.saved.hub.0 ≡ g.R.Renderer.page l.fn.saved.hub.0;
+  site : IsSameSite l.fn.saved.hub.1 l.saved.hub.1;
   saved : StaysSaved g.D.Device.seen g.D.Device.may_leave g.D.Device.failed g.D.Device.stale l.fn.saved l.saved;
   ready : IsReady g.D.Device.seen g.D.Device.may_leave g.D.Device.failed g.D.Device.stale l.fn.saved
       → IsReady g.D.Device.seen g.D.Device.may_leave g.D.Device.failed g.D.Device.stale l.saved;

@@ -1,6 +1,7 @@
-use Rattle.std.proofs.Common.{refl, sym, ap, subst, ◌∙◌, ◌∷◌, []}
+use Rattle.std.proofs.Common.{refl, sym, ◌∙◌, ◌∷◌, []}
 use Rattle.doc_hub_events.specs.declared.event.ConnId.{ConnId}
 use Rattle.doc_server_serving.proofs.LeavingSteps.{leaves, leaves_nobody, woken_left}
+use Rattle.doc_server_serving.proofs.Sites.{disconnects_same, same_site}
 use Rattle.doc_server_serving.proofs.letting_go.let_one_go.Goals as goal
 
 pub returns-then-not-has-clause-turns : goal.returns-then-not-has-clause-turns
@@ -21,3 +22,12 @@ pub returns-clause-woken : goal.returns-clause-woken
 returns-clause-woken g c =
     woken_left (g.N.Network.wakes c.args.net.now) (g.N.Network.wakes c.close.new.self) c.args.peers.now c.remove.new.self c.args.id
     c.remove.ensures c.close.ensures.wakes
+
+pub returns-then-not-has-clause-site : goal.returns-then-not-has-clause-site
+returns-then-not-has-clause-site g c = same_site c.args.saved.now.hub.1
+
+pub returns-clause-site : goal.returns-clause-site
+returns-clause-site g c =
+    let id : ConnId = record { 0 = c.args.id } in
+    disconnects_same (g.R.Renderer.page c.args.saved.now.hub.0) c.args.saved.now.hub.1 c.disconnect.new.self.hub.1 id _
+    c.disconnect.ensures.world

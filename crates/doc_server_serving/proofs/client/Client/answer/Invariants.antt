@@ -1,5 +1,5 @@
 use Rattle.std.proofs.Common.{◌≡◌, ◌≤◌, ◌<◌, true, length}
-use Rattle.doc_server_saved.specs.Saved.{IsReady, StaysSaved}
+use Rattle.doc_server_network.specs.Saved.{IsReady, StaysSaved}
 use Rattle.doc_server_serving.specs.Replies.{most_pending}
 use Rattle.doc_server_serving.proofs.AnswerSteps.{AnswersSharing}
 use Rattle.doc_server_serving.proofs.client.Client.answer.Given as goal

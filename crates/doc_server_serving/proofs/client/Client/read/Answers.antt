@@ -1,17 +1,19 @@
 use Rattle.std.proofs.Common.{refl, ap, ◌∙◌, sym, subst, take}
-use Rattle.std.specs.Prelude.{Ok, Err}
+use Rattle.std.specs.Prelude.{Ok}
 use Rattle.doc_hub_events.specs.declared.event.ConnId.{ConnId}
 use Rattle.doc_server_network.specs.Networks.{Moves, came_len}
 use Rattle.doc_server_network.proofs.Passing.{append_none, moved_at}
 use Rattle.doc_server_serving.specs.Wirings.{Peer}
 use Rattle.doc_server_serving.proofs.ReadSteps.{read_ended, read_nothing, read_pushed, read_refused}
+use Rattle.doc_server_serving.proofs.Wiring.{not_both}
 use Rattle.doc_server_serving.proofs.client.Client.read.Goals as goal
 
-pub returns-then-ne-clause-serves : goal.returns-then-ne-clause-serves
-returns-then-ne-clause-serves g c =
+pub returns-then-not-reads-clause-serves : goal.returns-then-not-reads-clause-serves
+returns-then-not-reads-clause-serves g c =
     let came = g.N.Network.came c.args.net.now c.args.id in
     read_nothing (g.R.Renderer.page c.args.saved.now.hub.0) came came (g.N.Network.has_ended c.args.net.now c.args.id) c.args.self.now
     c.args.self.now c.requires.open refl c.args.saved.now.hub.1 c.args.id (sym (append_none came)) c.requires.open
+    (λ r. absurd (not_both c.reads.result (c.reads.ensures r) c.if-not-reads.true))
 
 pub returns-in-Ok-clause-serves : goal.returns-in-Ok-clause-serves
 returns-in-Ok-clause-serves g c =
@@ -46,7 +48,7 @@ returns-in-Ok-Nothing-clause-serves g c =
     c.in-Ok-Nothing.ensures.came in
     rw (← c.self.view_is) (read_nothing (g.R.Renderer.page c.args.saved.now.hub.0) (old c.args.id) (new c.args.id)
     (g.N.Network.has_ended c.read.new.self c.args.id) _ _ opened refl c.args.saved.now.hub.1 c.args.id
-    (moved_at old new c.args.id _ moves) opened)
+    (moved_at old new c.args.id _ moves) opened (λ r. refl))
 
 pub returns-in-Ok-End-clause-serves : goal.returns-in-Ok-End-clause-serves
 returns-in-Ok-End-clause-serves g c =

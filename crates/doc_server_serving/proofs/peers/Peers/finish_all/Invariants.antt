@@ -1,5 +1,6 @@
 use Rattle.std.proofs.Common.{◌≡◌, length}
 use Rattle.doc_server_network.specs.Networks.{Rests, Stays}
+use Rattle.doc_server_serving.specs.Hearing.{SparesAll}
 use Rattle.doc_server_serving.specs.Wirings.{AreWoken, LingerAll}
 use Rattle.doc_server_serving.proofs.peers.Peers.finish_all.Given as goal
 
@@ -7,6 +8,7 @@ abbrev pub invariant-numbers : goal.invariant-numbers
 invariant-numbers g l = record {
   lingers : LingerAll (g.N.Network.came l.fn.net) (g.N.Network.came l.net) l.fn.self l.self;
   gone : Rests (g.N.Network.gone l.fn.net) (g.N.Network.gone l.net);
+  spares : SparesAll l.fn.self l.self;
   woken : AreWoken (g.N.Network.wakes l.fn.net) l.fn.self → AreWoken (g.N.Network.wakes l.net) l.self;
   ended : Stays (g.N.Network.has_ended l.fn.net) (g.N.Network.has_ended l.net);
   free : Stays (g.N.Network.is_free l.fn.net) (g.N.Network.is_free l.net);

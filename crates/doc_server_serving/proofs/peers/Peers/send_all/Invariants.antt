@@ -1,4 +1,5 @@
 use Rattle.doc_server_network.specs.Networks.{Rests, Stays}
+use Rattle.doc_server_serving.specs.Hearing.{SparesAll}
 use Rattle.doc_server_serving.specs.Wirings.{AreWoken, Gives}
 use Rattle.doc_server_serving.proofs.peers.Peers.send_all.Given as goal
 
@@ -6,6 +7,7 @@ abbrev pub invariant-numbers : goal.invariant-numbers
 invariant-numbers g l = record {
   gives : Gives (g.N.Network.gone l.fn.net) (g.N.Network.gone l.net) (g.N.Network.has_ended l.net) l.fn.self l.self;
   came : Rests (g.N.Network.came l.fn.net) (g.N.Network.came l.net);
+  spares : SparesAll l.fn.self l.self;
   woken : AreWoken (g.N.Network.wakes l.fn.net) l.fn.self → AreWoken (g.N.Network.wakes l.net) l.self;
   ended : Stays (g.N.Network.has_ended l.fn.net) (g.N.Network.has_ended l.net);
   free : Stays (g.N.Network.is_free l.fn.net) (g.N.Network.is_free l.net);

@@ -1,8 +1,13 @@
-use Rattle.std.proofs.Common.{◌∙◌, ap, sym, refl}
+use Rattle.std.proofs.Common.{◌∙◌, ap, sym, refl, subst, ℕ}
 use Rattle.std.specs.FinMap as map
+use Rattle.std.specs.BTreeMap.{BTreeMap}
+use Rattle.std.specs.Ordering.{nat_cmp}
 use Rattle.std.proofs.lemmas.Cmp.{nat_cmp_total}
 use Rattle.std.proofs.lemmas.Map.Lookups.{exact_unsigned}
 use Rattle.doc_page_parts.proofs.Maps.{looked_up, inserted}
+use Rattle.doc_server_serving.specs.Hearing.{SparesAll}
+use Rattle.doc_server_serving.specs.Wirings.{Peer}
+use Rattle.doc_server_serving.proofs.Hearing.{spares_at, spares_nobody}
 use Rattle.doc_server_serving.proofs.Tables.{woken_at, gives_at}
 use Rattle.doc_server_serving.proofs.peers.Peers.send_at.Goals as goal
 
@@ -29,3 +34,20 @@ returns-clause-woken g c =
     (inserted nat_cmp_total exact_unsigned es (c.get_mut.follows.lender c.send.new.self).entries c.args.id c.send.new.self
     (k (rw (← h) refl)).0 ∙ ap (λ m. map.insert m c.args.id c.send.new.self) c.self.view_is)
     c.send.ensures.woken c.send.ensures.wakes
+
+pub returns-clause-spares : goal.returns-clause-spares
+returns-clause-spares g c =
+    let es = c.self.inside.clients.entries in
+    let h = c.in-Some.ensures.value in
+    let k = (c.get_mut.follows.holds c.send.new.self).3 in
+    spares_at c.args.self.now _ c.args.id c.in-Some.client.now c.send.new.self
+    (ap (λ m. map.get m c.args.id) (sym c.self.view_is) ∙ sym (looked_up nat_cmp_total exact_unsigned es c.args.id) ∙ sym h)
+    (inserted nat_cmp_total exact_unsigned es (c.get_mut.follows.lender c.send.new.self).entries c.args.id c.send.new.self
+    (k (rw (← h) refl)).0 ∙ ap (λ m. map.insert m c.args.id c.send.new.self) c.self.view_is)
+    c.send.ensures.spares
+
+pub returns-in_default-clause-spares : goal.returns-in_default-clause-spares
+returns-in_default-clause-spares g c =
+    subst (SparesAll c.args.self.now)
+    (sym (ap (λ (t : BTreeMap ℕ Peer). map.from_entries {R = nat_cmp} t.entries) c.get_mut.follows.holds-at-none ∙ c.self.view_is))
+    (spares_nobody c.args.self.now)

@@ -1,10 +1,28 @@
+use Rattle.std.proofs.Common.{◌∙◌, ℕ, List, ap, arith, subst, sym, take}
+use Rattle.std.specs.Prelude.{Contains}
+use Rattle.std.proofs.lemmas.List.{take_more}
+use Rattle.std.proofs.Math.Seq.{take-length}
+use Rattle.doc_server_serving.proofs.Feeding.{fed_more}
 use Rattle.doc_server_serving.proofs.Tables.{swept_nothing, swept_join}
 use Rattle.doc_server_serving.proofs.peers.Peers.sweep.Goals as goal
 
 pub numbers-init : goal.numbers-init
-numbers-init c = record { swept = swept_nothing c.args.self.now }
+numbers-init c = record { swept = swept_nothing c.args.self.now; fed = λ k among. absurd (omega (arith, among.1)) }
 
 pub numbers-preserved : goal.numbers-preserved
 numbers-preserved c = record {
   swept = swept_join c.args.self.now c.numbers.self c.sweep_at.new.self c.numbers.invariant.swept c.sweep_at.ensures.swept;
+  fed = λ k among.
+      fed_more (take c.numbers.id-index c.args.numbers.now) _ c.numbers.self c.sweep_at.new.self c.sweep_at.ensures.swept
+      c.numbers.invariant.fed c.sweep_at.ensures.fed k
+      (subst (λ (xs : List ℕ). Contains xs k) (take_more c.args.numbers.now c.numbers.id-index 0 c.numbers-test.true) among);
 }
+
+pub returns-clause-fed : goal.returns-clause-fed
+returns-clause-fed c =
+    λ k among.
+    c.numbers.invariant.fed k
+    (subst (λ (xs : List ℕ). Contains xs k)
+    (sym (ap (λ n. take n c.args.numbers.now) (omega (arith, c.numbers-test.false, c.numbers.auto.id-index-end))
+    ∙ take-length c.args.numbers.now))
+    among)

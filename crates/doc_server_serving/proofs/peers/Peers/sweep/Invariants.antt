@@ -1,7 +1,11 @@
-use Rattle.doc_server_serving.specs.Wirings.{SweptAll}
+use Rattle.std.proofs.Common.{ℕ, take}
+use Rattle.std.specs.Prelude.{Contains}
+use Rattle.std.specs.FinMap as map
+use Rattle.doc_server_serving.specs.Wirings.{IsFedAt, SweptAll}
 use Rattle.doc_server_serving.proofs.peers.Peers.sweep.Given as goal
 
 abbrev pub invariant-numbers : goal.invariant-numbers
 invariant-numbers l = record {
   swept : SweptAll l.fn.self l.self;
+  fed : (k : ℕ) → Contains (take l.id-index l.numbers) k → IsFedAt (map.get l.self k);
 }

@@ -1,6 +1,7 @@
 use Rattle.std.proofs.Common.{ℕ, List, [], refl, ap, arith, sym, subst, take, ◌∙◌}
 use Rattle.std.proofs.Math.Seq.{take-length}
 use Rattle.std.proofs.lemmas.List.{take_more}
+use Rattle.doc_server_serving.proofs.Hearing.{all_hear_nothing}
 use Rattle.doc_server_serving.proofs.TableServing.{AllSharing, all_sharing_join, serves_nobody, shares_none}
 use Rattle.doc_server_serving.proofs.peers.Peers.take_in_all.Goals as goal
 
@@ -10,6 +11,7 @@ numbers-init g c = record {
     serves_nobody (g.R.Renderer.page c.args.saved.now.hub.0) c.args.saved.now.hub.1 [] (g.N.Network.came c.args.net.now)
         (g.N.Network.came c.args.net.now) (g.N.Network.has_ended c.args.net.now) c.args.self.now (λ k. refl),
     shares_none c.args.share.now c.args.share.now refl [],
+    all_hear_nothing c.args.self.now,
   );
   gone = λ k. refl;
   woken = λ w. w;

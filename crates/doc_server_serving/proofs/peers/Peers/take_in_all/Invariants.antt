@@ -1,6 +1,6 @@
 use Rattle.std.proofs.Common.{◌≡◌, length, take}
 use Rattle.doc_server_network.specs.Networks.{Rests, Stays}
-use Rattle.doc_server_saved.specs.Saved.{IsReady, StaysSaved}
+use Rattle.doc_server_network.specs.Saved.{IsReady, StaysSaved}
 use Rattle.doc_server_serving.specs.Wirings.{AreWoken}
 use Rattle.doc_server_serving.proofs.TableServing.{AllSharing}
 use Rattle.doc_server_serving.proofs.peers.Peers.take_in_all.Given as goal

@@ -7,6 +7,7 @@ use Rattle.std.proofs.lemmas.Map.Lookups.{exact_unsigned}
 use Rattle.doc_page_parts.proofs.Maps.{looked_up, inserted}
 use Rattle.doc_server_listen.specs.Costs.{Left}
 use Rattle.doc_server_serving.specs.Wirings.{Peer, Table}
+use Rattle.doc_server_serving.proofs.Hearing.{nobody_hears, one_hears}
 use Rattle.doc_server_serving.proofs.TableServing.{AllSharing, serves_at, serves_nobody, shares_none, shares_one}
 use Rattle.doc_server_serving.proofs.Tables.{woken_at}
 use Rattle.doc_server_serving.proofs.peers.Peers.take_in_at.Goals as goal
@@ -19,6 +20,9 @@ returns-in_default-clause-serves g c =
     (sym (ap (λ (t : BTreeMap ℕ Peer). map.from_entries {R = nat_cmp} t.entries) c.get_mut.follows.holds-at-none ∙ c.self.view_is)) (
       serves_nobody render w (c.args.id ∷ []) came came ended c.args.self.now (λ k. refl),
       shares_none c.args.share.now c.begin.new.self (ap (λ (l : Left). l.dear) c.begin.ensures) (c.args.id ∷ []),
+      nobody_hears c.args.id c.args.self.now
+          (ap (λ m. map.get m c.args.id) (sym c.self.view_is)
+          ∙ sym (looked_up nat_cmp_total exact_unsigned c.self.inside.clients.entries c.args.id) ∙ sym c.in_default.ensures.value),
     )
 
 pub returns-clause-serves : goal.returns-clause-serves
@@ -35,6 +39,11 @@ returns-clause-serves g c =
           c.take_in.ensures.others c.take_in.ensures.serves.0,
       shares_one c.args.id c.take_in.ensures.serves.0.run c.args.share.now c.begin.new.self c.take_in.new.share
           c.take_in.ensures.serves.0.own c.begin.ensures c.take_in.ensures.serves.1,
+      one_hears c.args.id c.take_in.ensures.serves.0.run c.args.self.now _ c.in-Some.client.now c.take_in.new.self
+          (ap (λ m. map.get m c.args.id) (sym c.self.view_is) ∙ sym (looked_up nat_cmp_total exact_unsigned es c.args.id) ∙ sym h)
+          (inserted nat_cmp_total exact_unsigned es (c.get_mut.follows.lender c.take_in.new.self).entries c.args.id c.take_in.new.self
+          (k (rw (← h) refl)).0 ∙ ap (λ m. map.insert m c.args.id c.take_in.new.self) c.self.view_is)
+          c.take_in.ensures.serves.2 c.take_in.ensures.serves.3,
     )
 
 pub returns-clause-woken : goal.returns-clause-woken

@@ -1,0 +1,236 @@
+-- Lines of words, worked.
+use Rattle.std.specs.Prelude.{◌≡◌, ℕ, List, [], ◌∷◌, ◌++◌, Bool, true, false, length, nat_le, codes, Some, None, Ok, Err, Option, replicate, refl}
+use Rattle.std.specs.List.{list_all}
+use Rattle.std.specs.Str.Lines.{lines}
+use Rattle.std.specs.declared.net.socket_addr.SocketAddr.{SocketAddr}
+use Rattle.std.specs.Net.Reader.{read_socket_v4, read_socket_v6, read_ipv4, read_ipv6, read_segments, read_octet, read_segment, read_number, read_port, read_scope_id}
+use Rattle.percent_encoding.specs.AsciiSet.{should_percent_encode}
+use Rattle.percent_encoding.specs.Percent.{percent_encode, percent_encode_byte}
+use Rattle.doc_server_arguments.specs.declared.help.TheConstants.{HELP}
+use Rattle.doc_server_arguments.specs.Addresses.{address_of, listen_address_of, v4_of, v6_of}
+use Rattle.doc_server_arguments.specs.Commands.{Asked, command_in, Demo, Render, Examples, Check, Replay, Serve, Listen, Compact, Folders, Version, Help}
+use Rattle.doc_server_arguments.specs.ShownWords.{shown_word}
+use Rattle.doc_server_arguments.specs.Usage.{NoCommand, NoAddress, UnknownOption, StandsTwice, NeedsFile, usage_text}
+use Rattle.doc_server_arguments.specs.Versions.{version_lines}
+
+-- ---- addresses
+
+-- 127.0.0.1 and a port
+abbrev local : ℕ → SocketAddr
+local port = v4_of (127 ∷ 0 ∷ 0 ∷ 1 ∷ [], port)
+
+an_address : address_of (codes "127.0.0.1:8080") ≡ Some (local 8080)
+unfolding address_of read_socket_v4 read_ipv4 read_octet read_number read_port
+an_address = refl
+
+zeros_of_a_port : address_of (codes "127.0.0.1:0080") ≡ Some (local 80)
+unfolding address_of read_socket_v4 read_ipv4 read_octet read_number read_port
+zeros_of_a_port = refl
+
+an_ipv6_address : address_of (codes "[::1]:80") ≡ Some (v6_of (0 ∷ 0 ∷ 0 ∷ 0 ∷ 0 ∷ 0 ∷ 0 ∷ 1 ∷ [], 80, 0, 0))
+unfolding address_of read_socket_v4 read_socket_v6 read_ipv4 read_ipv6 read_octet read_number read_port read_segments read_segment
+    read_scope_id
+an_ipv6_address = refl
+
+no_port : address_of (codes "127.0.0.1") ≡ None
+unfolding address_of read_socket_v4 read_socket_v6 read_ipv4 read_octet read_number read_port
+no_port = refl
+
+a_port_above : address_of (codes "127.0.0.1:65536") ≡ None
+unfolding address_of read_socket_v4 read_socket_v6 read_ipv4 read_octet read_number read_port
+a_port_above = refl
+
+a_sign : address_of (codes "127.0.0.1:+1") ≡ None
+unfolding address_of read_socket_v4 read_socket_v6 read_ipv4 read_octet read_number read_port
+a_sign = refl
+
+localhost : listen_address_of (codes "localhost:8080") ≡ Some (local 8080)
+unfolding address_of read_socket_v4 read_ipv4 read_octet read_number read_port
+localhost = refl
+
+localhost_in_capitals : listen_address_of (codes "Localhost:8080") ≡ None
+unfolding address_of read_socket_v4 read_socket_v6 read_ipv4 read_octet read_number
+localhost_in_capitals = refl
+
+localhost_without_port : listen_address_of (codes "localhost") ≡ None
+unfolding address_of read_socket_v4 read_socket_v6 read_ipv4 read_octet read_number
+localhost_without_port = refl
+
+localhost_with_a_sign : listen_address_of (codes "localhost:+1") ≡ None
+unfolding address_of read_socket_v4 read_socket_v6 read_ipv4 read_octet read_number read_port
+localhost_with_a_sign = refl
+
+-- ---- commands without options
+
+nothing : command_in [] ≡ Err NoCommand
+nothing = refl
+
+an_empty_word : command_in ([] ∷ []) ≡ Err NoCommand
+an_empty_word = refl
+
+demo : command_in (codes "demo" ∷ []) ≡ Ok Demo
+demo = refl
+
+demo_and_more : command_in (codes "demo" ∷ codes "x" ∷ []) ≡ Err NoCommand
+demo_and_more = refl
+
+demo_in_capitals : command_in (codes "Demo" ∷ []) ≡ Err NoCommand
+demo_in_capitals = refl
+
+render : command_in (codes "render" ∷ []) ≡ Ok Render
+render = refl
+
+examples : command_in (codes "examples" ∷ codes "spec.txt" ∷ []) ≡ Ok (Examples (codes "spec.txt"))
+examples = refl
+
+examples_of_none : command_in (codes "examples" ∷ []) ≡ Err NoCommand
+examples_of_none = refl
+
+check : command_in (codes "check" ∷ codes "site.toml" ∷ codes "tok" ∷ []) ≡ Ok (Check (codes "site.toml") (codes "tok"))
+check = refl
+
+check_without_a_token : command_in (codes "check" ∷ codes "site.toml" ∷ []) ≡ Err NoCommand
+check_without_a_token = refl
+
+replay : command_in (codes "replay" ∷ codes "site.toml" ∷ []) ≡ Ok (Replay (codes "site.toml"))
+replay = refl
+
+folders : command_in (codes "folders" ∷ codes "site.toml" ∷ []) ≡ Ok (Folders (codes "site.toml"))
+folders = refl
+
+version : command_in (codes "--version" ∷ []) ≡ Ok Version
+version = refl
+
+help : command_in (codes "--help" ∷ []) ≡ Ok Help
+help = refl
+
+help_and_more : command_in (codes "--help" ∷ codes "listen" ∷ []) ≡ Err NoCommand
+help_and_more = refl
+
+serve : command_in (codes "serve" ∷ codes "site.toml" ∷ codes "127.0.0.1:0" ∷ codes "007" ∷ codes "4294967295" ∷ [])
+    ≡ Ok (Serve (codes "site.toml") (codes "127.0.0.1:0") (local 0) 7 4294967295)
+unfolding address_of read_socket_v4 read_ipv4 read_octet read_number read_port
+serve = refl
+
+serve_too_many : command_in (codes "serve" ∷ codes "site.toml" ∷ codes "127.0.0.1:0" ∷ codes "4294967296" ∷ codes "1" ∷ []) ≡ Err NoCommand
+unfolding address_of read_socket_v4 read_ipv4 read_octet read_number read_port
+serve_too_many = refl
+
+serve_a_sign : command_in (codes "serve" ∷ codes "site.toml" ∷ codes "127.0.0.1:0" ∷ codes "1" ∷ codes "+1" ∷ []) ≡ Err NoCommand
+unfolding address_of read_socket_v4 read_ipv4 read_octet read_number read_port
+serve_a_sign = refl
+
+-- `localhost` is `listen`'s alone, and `serve` tells of nothing more
+serve_at_localhost : command_in (codes "serve" ∷ codes "site.toml" ∷ codes "localhost:80" ∷ codes "1" ∷ codes "1" ∷ []) ≡ Err NoCommand
+unfolding address_of read_socket_v4 read_socket_v6 read_ipv4 read_octet read_number
+serve_at_localhost = refl
+
+-- ---- options
+
+abbrev listen_with : List (List ℕ) → List (List ℕ)
+listen_with options = codes "listen" ∷ codes "site.toml" ∷ codes "localhost:80" ∷ options
+
+abbrev listening : Option (List ℕ) → Bool → Asked
+listening journal log = Listen (codes "site.toml") (codes "localhost:80") (local 80) journal log
+
+listen : command_in (listen_with []) ≡ Ok (listening None false)
+unfolding address_of read_socket_v4 read_ipv4 read_octet read_number read_port
+listen = refl
+
+listen_with_journal : command_in (listen_with (codes "--journal" ∷ codes "j" ∷ [])) ≡ Ok (listening (Some (codes "j")) false)
+unfolding address_of read_socket_v4 read_ipv4 read_octet read_number read_port
+listen_with_journal = refl
+
+listen_with_both : command_in (listen_with (codes "--journal" ∷ codes "j" ∷ codes "--log" ∷ [])) ≡ Ok (listening (Some (codes "j")) true)
+unfolding address_of read_socket_v4 read_ipv4 read_octet read_number read_port
+listen_with_both = refl
+
+listen_the_other_way : command_in (listen_with (codes "--log" ∷ codes "--journal" ∷ codes "j" ∷ []))
+    ≡ Ok (listening (Some (codes "j")) true)
+unfolding address_of read_socket_v4 read_ipv4 read_octet read_number read_port
+listen_the_other_way = refl
+
+-- what stands behind `--journal` is its file
+journal_of_that_name : command_in (listen_with (codes "--journal" ∷ codes "--log" ∷ [])) ≡ Ok (listening (Some (codes "--log")) false)
+unfolding address_of read_socket_v4 read_ipv4 read_octet read_number read_port
+journal_of_that_name = refl
+
+journal_without_file : command_in (listen_with (codes "--log" ∷ codes "--journal" ∷ [])) ≡ Err (NeedsFile (codes "--journal"))
+unfolding address_of read_socket_v4 read_ipv4 read_octet read_number read_port
+journal_without_file = refl
+
+journal_twice : command_in (listen_with (codes "--journal" ∷ codes "j" ∷ codes "--log" ∷ codes "--journal" ∷ codes "j" ∷ []))
+    ≡ Err (StandsTwice (codes "--journal"))
+unfolding address_of read_socket_v4 read_ipv4 read_octet read_number read_port
+journal_twice = refl
+
+-- the same word twice and without a file: it stands twice
+journal_twice_without_file : command_in (listen_with (codes "--journal" ∷ codes "j" ∷ codes "--journal" ∷ []))
+    ≡ Err (StandsTwice (codes "--journal"))
+unfolding address_of read_socket_v4 read_ipv4 read_octet read_number read_port
+journal_twice_without_file = refl
+
+log_twice : command_in (listen_with (codes "--log" ∷ codes "--log" ∷ codes "what" ∷ [])) ≡ Err (StandsTwice (codes "--log"))
+unfolding address_of read_socket_v4 read_ipv4 read_octet read_number read_port
+log_twice = refl
+
+unknown_first : command_in (listen_with (codes "what" ∷ codes "--log" ∷ codes "--log" ∷ [])) ≡ Err (UnknownOption (codes "what"))
+unfolding address_of read_socket_v4 read_ipv4 read_octet read_number read_port
+unknown_first = refl
+
+-- the address stands before the options
+address_before_options : command_in (codes "listen" ∷ codes "site.toml" ∷ codes "--log" ∷ codes "what" ∷ []) ≡ Err NoAddress
+unfolding address_of read_socket_v4 read_socket_v6 read_ipv4 read_octet read_number
+address_before_options = refl
+
+listen_without_address : command_in (codes "listen" ∷ codes "site.toml" ∷ []) ≡ Err NoCommand
+listen_without_address = refl
+
+compact : command_in (codes "compact" ∷ codes "site.toml" ∷ codes "--journal" ∷ codes "j" ∷ [])
+    ≡ Ok (Compact (codes "site.toml") (codes "j"))
+compact = refl
+
+compact_without_journal : command_in (codes "compact" ∷ codes "site.toml" ∷ []) ≡ Err NoCommand
+compact_without_journal = refl
+
+compact_without_file : command_in (codes "compact" ∷ codes "site.toml" ∷ codes "--journal" ∷ []) ≡ Err (NeedsFile (codes "--journal"))
+compact_without_file = refl
+
+compact_with_log : command_in (codes "compact" ∷ codes "site.toml" ∷ codes "--log" ∷ []) ≡ Err (UnknownOption (codes "--log"))
+compact_with_log = refl
+
+compact_and_more : command_in (codes "compact" ∷ codes "site.toml" ∷ codes "--journal" ∷ codes "j" ∷ codes "x" ∷ [])
+    ≡ Err (UnknownOption (codes "x"))
+compact_and_more = refl
+
+-- ---- what is told
+
+usage : usage_text NoCommand ≡ codes "usage"
+usage = refl
+
+no_file_told : usage_text (NeedsFile (codes "--journal")) ≡ codes "--journal needs a file\ndocs_server: usage"
+unfolding percent_encode should_percent_encode
+no_file_told = refl
+
+-- an escape, a space, DEL and an accented letter stand by their numbers
+word_told : shown_word (27 ∷ codes "[31m a" ++ 127 ∷ 195 ∷ 169 ∷ []) ≡ codes "%1B[31m%20a%7F%C3%A9"
+unfolding percent_encode percent_encode_byte should_percent_encode
+word_told = refl
+
+empty_word_told : usage_text (UnknownOption []) ≡ codes "unknown option: \ndocs_server: usage"
+unfolding percent_encode
+empty_word_told = refl
+
+long_word_told : shown_word (replicate 1001 97) ≡ replicate 1000 97 ++ codes "..."
+unfolding percent_encode should_percent_encode
+long_word_told = refl
+
+version_told : version_lines ≡ codes "docs_server 0.9.0\njournal 2\njournal 1 (compact alone)"
+version_told = refl
+
+-- no line of the help is longer than 100 characters; all are ASCII, so bytes are characters
+help_is_narrow : list_all (λ line. nat_le (length line) 100) (lines HELP.now) ≡ true
+help_is_narrow = refl
+
+help_is_ascii : list_all (λ b. nat_le b 126) HELP.now ≡ true
+help_is_ascii = refl

@@ -1,0 +1,6 @@
+mod ArgumentsExamples
+mod Digits
+mod Fronts
+mod OptionLaws
+mod Ports
+mod Reading

@@ -1,0 +1,10 @@
+pub mod Addresses
+pub mod CommandSteps
+pub mod Commands
+pub mod Numbers
+pub mod OptionSteps
+pub mod Options
+pub mod ShownWords
+pub mod Texts
+pub mod Usage
+pub mod Versions

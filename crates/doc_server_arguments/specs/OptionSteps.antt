@@ -1,0 +1,56 @@
+-- Options taken one after the other.
+use Rattle.std.specs.Prelude.{ℕ, List, [], ◌∷◌, true, not, bytes_eq, Option, Some, None, option_copied, Result, Ok, Err, String, if◌then◌else◌}
+use Rattle.std.specs.Borrow.{Bor}
+use Rattle.std.specs.List.{list_any}
+use Rattle.doc_server_arguments.specs.declared.options.Known.{Known}
+use Rattle.doc_server_arguments.specs.declared.options.Options.{Options}
+use Rattle.doc_server_arguments.specs.declared.usage_fault.UsageFault.{UsageFault}
+use Rattle.doc_server_arguments.specs.Options.{Said, Stated, names_of, takes_file, stated}
+use Rattle.doc_server_arguments.specs.Texts.{texts}
+use Rattle.doc_server_arguments.specs.Usage.{Wrong, UnknownOption, StandsTwice, NeedsFile, fault_shown}
+
+-- what options say, of those that the code has
+abbrev pub said_so_far : Options → Said
+said_so_far options = record { journal = option_copied options.journal; log = options.log }
+
+abbrev pub shown_options : Result Options UsageFault → Result Said Wrong
+shown_options (Ok options) = Ok (said_so_far options)
+shown_options (Err fault) = Err (fault_shown fault)
+
+-- a file that the option before which it stands takes, by what an earlier one took
+abbrev pub journal_taken : Said → List ℕ → Option (List ℕ) → Option (List ℕ) → Result Said Wrong
+journal_taken said word (Some before) file = Err (StandsTwice word)
+journal_taken said word None None = Err (NeedsFile word)
+journal_taken said word None (Some file) = Ok (record said { journal = Some file })
+
+-- what is said with one option more
+abbrev pub taken_one : Known → Said → Stated → Result Said Wrong
+taken_one known said option =
+    if not (list_any (bytes_eq option.word) (names_of known)) then Err (UnknownOption option.word)
+    else (if takes_file option.word then journal_taken said option.word said.journal option.file
+    else (if said.log then Err (StandsTwice option.word) else Ok (record said { log = true })))
+
+-- what a function says of what is said
+abbrev pub onward : (Said → Result Said Wrong) → Result Said Wrong → Result Said Wrong
+onward next (Ok said) = next said
+onward next (Err wrong) = Err wrong
+
+-- what is said with these options more
+abbrev pub taken_all : Known → Said → List Stated → Result Said Wrong
+taken_all known said [] = Ok said
+taken_all known said (option ∷ rest) = onward (λ more. taken_all known more rest) (taken_one known said option)
+
+-- what is said once the words behind an option that was taken are taken too
+abbrev pub taken_behind : {A : Type 0} → Known → Result (Options × Bor (List (String A))) UsageFault → Result Said Wrong
+taken_behind known (Ok left) = taken_all known (said_so_far left.0) (stated (texts left.1.now))
+taken_behind known (Err fault) = Err (fault_shown fault)
+
+-- the file of an option and the words behind it, by what an earlier one took
+abbrev pub file_behind : List ℕ → Option (List ℕ) → List (List ℕ) → Result (List ℕ × List (List ℕ)) Wrong
+file_behind option (Some before) behind = Err (StandsTwice option)
+file_behind option None [] = Err (NeedsFile option)
+file_behind option None (file ∷ rest) = Ok (file, rest)
+
+abbrev pub shown_file : {A : Type 0} → Result (Bor (List ℕ) × Bor (List (String A))) UsageFault → Result (List ℕ × List (List ℕ)) Wrong
+shown_file (Ok left) = Ok (left.0.now, texts left.1.now)
+shown_file (Err fault) = Err (fault_shown fault)

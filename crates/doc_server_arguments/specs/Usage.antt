@@ -1,0 +1,30 @@
+-- What isn't understood of arguments, and how that is told.
+use Rattle.std.specs.Prelude.{ℕ, List, ◌++◌, codes}
+use Rattle.doc_server_arguments.specs.declared.usage_fault.UsageFault.{UsageFault}
+use Rattle.doc_server_arguments.specs.declared.usage_fault.UsageFault.TheVariants as faults
+use Rattle.doc_server_arguments.specs.ShownWords.{shown_word}
+
+-- what isn't understood: the words are no command; ADDR of `listen` is no address; a word is no option of its command, or one that
+-- stands before already, or one that has no file behind it
+pub data Wrong : Type 0 where
+  NoCommand : Wrong
+  NoAddress : Wrong
+  UnknownOption : List ℕ → Wrong
+  StandsTwice : List ℕ → Wrong
+  NeedsFile : List ℕ → Wrong
+
+-- the same as the code has it
+abbrev pub fault_shown : UsageFault → Wrong
+fault_shown faults.Command = NoCommand
+fault_shown faults.Address = NoAddress
+fault_shown (faults.UnknownOption word) = UnknownOption word.now
+fault_shown (faults.NeedsFile word) = NeedsFile word.now
+fault_shown (faults.StandsTwice word) = StandsTwice word.now
+
+-- how it is told, behind `docs_server: `
+abbrev pub usage_text : Wrong → List ℕ
+usage_text NoCommand = codes "usage"
+usage_text NoAddress = codes "ADDR is an IP address or localhost, and a port: 127.0.0.1:8080\ndocs_server: usage"
+usage_text (UnknownOption word) = codes "unknown option: " ++ (shown_word word ++ codes "\ndocs_server: usage")
+usage_text (StandsTwice word) = shown_word word ++ codes " stands twice\ndocs_server: usage"
+usage_text (NeedsFile word) = shown_word word ++ codes " needs a file\ndocs_server: usage"

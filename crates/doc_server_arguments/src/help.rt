@@ -1,0 +1,18 @@
+//! What `--help` prints.
+
+/// The commands, a line each, of at most 100 characters. It is printed without a line feed at its end.
+pub const HELP: &str = "docs_server COMMAND, one of
+
+listen CONFIG ADDR [--journal FILE] [--log]  serves the site to all who come
+folders CONFIG                               tells which files of CONFIG's folders are bad
+compact CONFIG --journal FILE                writes the journal anew, of the site its edits lead to
+check CONFIG TOKEN                           prints the broken links that the token's reader sees
+replay CONFIG                                lets the events of a script happen on the site
+serve CONFIG ADDR COUNT TURNS                serves COUNT connections in TURNS passes at most
+demo                                         answers requests on the demonstration site
+render                                       renders CommonMark as HTML
+examples FILE                                compares the examples of CommonMark's specification
+--version                                    prints the version, and which journals are read
+--help                                       prints this
+
+ADDR is an IP address and a port, as 127.0.0.1:8080; for listen also localhost:8080.";

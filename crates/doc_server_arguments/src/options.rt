@@ -1,0 +1,99 @@
+//! The options behind the other words of a command, in any order, each at most once. A further option is one arm of `taken`.
+
+ghost use Rattle.std.specs.Prelude.{◌≡◌, ◌∷◌, ◌≤◌, IfOk, length, option_copied};
+ghost use Rattle.doc_server_arguments.specs.Texts.{texts};
+ghost use Rattle.doc_server_arguments.specs.Options.{options_in, stated};
+ghost use Rattle.doc_server_arguments.specs.OptionSteps.{file_behind, said_so_far, shown_file, shown_options, taken_all, taken_behind};
+
+use crate::usage_fault::UsageFault;
+use doc_page_parts::heap::String;
+
+/// Which options a command has.
+#[derive(Clone, Copy, Debug, PartialEq, Eq)]
+pub(crate) enum Known {
+    /// `--journal FILE` and `--log`.
+    All,
+    /// `--journal FILE` alone.
+    Journal,
+}
+
+/// What options say.
+#[derive(Clone, Copy, Debug, PartialEq, Eq)]
+pub(crate) struct Options<'a> {
+    /// The file of the journal, where there is one.
+    pub(crate) journal: Option<&'a str>,
+    /// Whether each request is logged.
+    pub(crate) log: bool,
+}
+
+/// The options that these words are.
+pub(crate) fn options_of<'a>(
+    known: Known,
+    words: &'a [String],
+) -> Result<Options<'a>, UsageFault<'a>>
+    ensures { shown_options result ≡ options_in known (texts words.now) }
+{
+    let mut options = Options {
+        journal: None,
+        log: false,
+    };
+    let mut rest = words;
+    'options: while let Some((option, behind)) = rest.split_first() {
+        let (more, left) = taken(known, options, option.as_str(), behind)?;
+        options = more;
+        rest = left;
+    }
+    Ok(options)
+}
+
+/// The options with one more, and the words behind that.
+fn taken<'a>(
+    known: Known,
+    options: Options<'a>,
+    option: &'a str,
+    behind: &'a [String],
+) -> Result<(Options<'a>, &'a [String]), UsageFault<'a>>
+    ensures same { taken_behind known result
+        ≡ taken_all known (said_so_far options.entry) (stated (option.now ∷ texts behind.now)) }
+    ensures fewer { IfOk result (λ left. length left.1.now ≤ length behind.now) }
+{
+    match (option, known) {
+        ("--journal", _) => {
+            let (file, rest) = file_of(option, options.journal, behind)?;
+            let journal = Some(file);
+            Ok((Options { journal, ..options }, rest))
+        }
+        ("--log", Known::All) => {
+            if options.log {
+                return Err(UsageFault::StandsTwice(option));
+            }
+            Ok((
+                Options {
+                    log: true,
+                    ..options
+                },
+                behind,
+            ))
+        }
+        _ => Err(UsageFault::UnknownOption(option)),
+    }
+}
+
+/// The file of an option, which says what stood before, and the words behind it.
+fn file_of<'a>(
+    option: &'a str,
+    before: Option<&'a str>,
+    behind: &'a [String],
+) -> Result<(&'a str, &'a [String]), UsageFault<'a>>
+    ensures same { shown_file result
+        ≡ file_behind option.now (option_copied before.entry) (texts behind.now) }
+    ensures fewer { IfOk result (λ left. length left.1.now ≤ length behind.now) }
+{
+    if before.is_some() {
+        return Err(UsageFault::StandsTwice(option));
+    }
+    let Some((file, rest)) = behind.split_first() else {
+        return Err(UsageFault::NeedsFile(option));
+    };
+    Ok((file.as_str(), rest))
+}

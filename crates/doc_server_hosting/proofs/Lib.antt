@@ -1,0 +1,3 @@
+mod Hosted
+mod Joining
+mod Ready

@@ -1,0 +1,2 @@
+pub mod Hostings
+pub mod Hosts

@@ -1,0 +1,55 @@
+//! What a site was served with, and how that ended.
+
+ghost use Rattle.std.specs.Prelude.{◌≡◌};
+
+use doc_page::renderer::Renderer;
+use doc_server_journal::device::Device;
+use doc_server_network::network::Network;
+use doc_server_network::saved_hub::SavedHub;
+use doc_server_network::watch::Watch;
+use doc_server_network::watched::Watched;
+use doc_server_serving::fault::ServeFault;
+use doc_server_serving::server::Server;
+
+/// The hub, the network and the server of a site that isn't served any more, and why.
+pub struct Ended<D: Device, N: Network, R: Renderer + Drop> {
+    pub saved: SavedHub<D, R>,
+    pub net: N,
+    pub server: Server,
+    pub served: Result<(), ServeFault>,
+}
+
+/// Written out, so that it is proved here once: what a derived drop does is proved wherever a value is let go.
+impl<D: Device + Drop, N: Network + Drop, R: Renderer + Drop> Drop for Ended<D, N, R> {
+    fn drop(self) {
+        let Ended {
+            saved: _,
+            net: _,
+            server: _,
+            served: _,
+        } = self;
+    }
+}
+
+impl<D: Device, N: Network + Drop, W: Watch + Drop, R: Renderer + Drop> Ended<D, Watched<N, W>, R> {
+    /// The same with the network of which nobody is told any more.
+    pub fn unwatched(self) -> Ended<D, N, R>
+        ensures saved { result.saved ≡ self.saved }
+        ensures net { result.net ≡ self.net.net }
+        ensures server { result.server ≡ self.server }
+        ensures served { result.served ≡ self.served }
+    {
+        let Ended {
+            saved,
+            net,
+            server,
+            served,
+        } = self;
+        Ended {
+            saved,
+            net: net.into_network(),
+            server,
+            served,
+        }
+    }
+}

@@ -1,0 +1,108 @@
+//! A site served on a host.
+
+ghost use Rattle.std.specs.Prelude.{◌≡◌, ◌≤◌, ℕ, Ok, IfOk, OnOk, option_copied};
+ghost use Rattle.std.specs.FinMap as map;
+ghost use Rattle.doc_server_hosting.specs.Hostings.{IsHosted};
+ghost use Rattle.doc_server_hosting.specs.Hosts.{IsUnused};
+ghost use Rattle.doc_server_network.specs.Crashes.{CrashesLeave};
+ghost use Rattle.doc_server_network.specs.Saved.{IsAllSaved, IsReady, IsSettled};
+ghost use Rattle.doc_server_serving.specs.Crashing.{AreKnown, RestoresFront};
+ghost use Rattle.doc_server_serving.specs.Invariants.{HasServedNobody, IsServed};
+ghost use Rattle.doc_server_serving.specs.Leading.{Leads};
+ghost use Rattle.doc_server_serving.specs.Wirings.{AreWoken};
+ghost use Rattle.doc_store.specs.Store.{StoreState};
+
+use crate::ended::Ended;
+use crate::fault::HostingFault;
+use crate::host::Host;
+use crate::journaled::saved_hub;
+use crate::terms::Terms;
+use doc_hub::hub::Hub;
+use doc_page::renderer::Renderer;
+use doc_page_parts::heap::Heap;
+use doc_server_journal::device::Device;
+use doc_server_network::network::Network;
+use doc_server_network::saved_hub::SavedHub;
+use doc_server_network::watch::Watch;
+use doc_server_network::watched::Watched;
+use doc_server_serving::named_file::NamedFile;
+use doc_server_serving::server::Server;
+use std::rt::Clock;
+
+/// Serves a hub that has the pages of a configuration, with the journal that the terms name, if they do, until it is told to stop. Somebody
+/// may watch what passes. All pages stand, and the journal's edits are made, before the address is bound; peers are accepted behind the word
+/// that it is. At an `Err` nobody was accepted.
+pub fn host_site<H: Host, R: Renderer + Drop, C: Clock, W: Watch + Drop>(
+    rt: &C,
+    heap: Heap,
+    host: &H,
+    hub: Hub<R>,
+    terms: &Terms<'_>,
+    watch: Option<W>,
+) -> Result<Ended<H::Device, H::Network, R>, HostingFault<H::Fault>>
+    ensures hosted { IfOk result (λ ended. IsHosted H.Device.seen H.Device.may_leave
+        H.Device.failed H.Device.stale H.Device.moment H.Device.left_since (R.page hub.0)
+        (H.file host.now) (option_copied terms.now.journal) hub.1 ended.saved
+        (H.Network.came ended.net) (H.Network.gone ended.net) (ended.served ≡ Ok tt)) }
+    ensures woken { IfOk result (λ ended. AreWoken (H.Network.wakes ended.net) ended.server.peers) }
+    ensures bound { IfOk result (λ ended. map.len ended.server.peers ≤ terms.now.connections) }
+{
+    let saved = saved_hub(heap, host, hub, terms.journal)?;
+    let server = Server::new(rt, heap, terms.connections, terms.idle_seconds)?;
+    let net = bound(heap, host)?;
+    match watch {
+        Some(watch) => Ok(serve(rt, server, Watched::new(heap, net, watch), saved).unwatched()),
+        None => Ok(serve(rt, server, net, saved)),
+    }
+}
+
+/// A network that listens at the host's address, which was told.
+fn bound<H: Host>(heap: Heap, host: &H) -> Result<H::Network, HostingFault<H::Fault>>
+    ensures { IfOk result (λ net. (k : ℕ) → IsUnused (H.Network.came net k)
+        (H.Network.gone net k) (H.Network.is_free net k)) }
+{
+    let net = match host.bind(heap) {
+        Ok(net) => net,
+        Err(fault) => return Err(HostingFault::Host(fault)),
+    };
+    match host.tell_bound() {
+        Ok(()) => Ok(net),
+        Err(fault) => Err(HostingFault::Host(fault)),
+    }
+}
+
+/// Serves until it is told to stop.
+fn serve<N: Network + Drop, D: Device + NamedFile + Drop, R: Renderer + Drop, C: Clock>(
+    rt: &C,
+    server: Server,
+    net: N,
+    saved: SavedHub<D, R>,
+) -> Ended<D, N, R>
+    requires all { IsAllSaved saved }
+    requires ready { IsReady D.seen D.may_leave D.failed D.stale saved }
+    requires new { HasServedNobody saved.hub.1.given (N.came net) (N.gone net)
+        (N.is_free net) server.peers }
+    ensures served { (s : Leads (R.page saved.hub.0) saved.hub.1 result.saved.hub.1)
+        × IsServed s.run (N.came result.net) (N.gone result.net)
+        × ((config : StoreState) → AreKnown D.seen
+        → IsSettled D.seen D.may_leave D.failed D.stale config saved
+        → CrashesLeave D.seen D.moment D.left_since
+        (RestoresFront config (R.page saved.hub.0) saved.hub.1 s.run)
+        saved.journal result.saved.journal) }
+    ensures woken { AreWoken (N.wakes result.net) result.server.peers }
+    ensures bound { map.len result.server.peers ≤ server.door.most }
+    ensures settled { (config : StoreState)
+        → IsSettled D.seen D.may_leave D.failed D.stale config saved
+        → OnOk result.served (IsSettled D.seen D.may_leave D.failed D.stale config result.saved) }
+{
+    let mut server = server;
+    let mut net = net;
+    let mut saved = saved;
+    let served = server.serve(rt, &mut net, &mut saved);
+    Ended {
+        saved,
+        net,
+        server,
+        served,
+    }
+}

@@ -1,0 +1,39 @@
+//! The room of a journal before anybody is served.
+
+ghost use Rattle.std.specs.Prelude.{◌≡◌, List, ℕ, OnOk};
+ghost use Rattle.doc_server_hosting.specs.Hostings.{TakesPuts};
+ghost use Rattle.doc_server_journal.specs.Journals.{IsOpen};
+ghost use Rattle.doc_server_settling.specs.Reserves.{HasRoomToRemove};
+
+use crate::fault::HostingFault;
+use doc_hub::hub::Hub;
+use doc_page::renderer::Renderer;
+use doc_server_journal::device::Device;
+use doc_server_journal::journal::Journal;
+use doc_server_serving::named_file::NamedFile;
+use doc_server_settling::reserve::{RESERVE, SPARE, has_room_to_remove, keep_reserve};
+
+/// Sees to it that a journal has its reserve, so that turns have room. Where the disk doesn't give it the hub takes no puts, which is told; and
+/// where it doesn't give room for the removal of each page either, nobody is served.
+pub fn make_room<D: Device + NamedFile, R: Renderer + Drop, F: Drop>(
+    journal: &mut Journal<D>,
+    hub: &mut Hub<R>,
+) -> Result<(), HostingFault<F>>
+    requires open { (texts : List (List ℕ))
+        × IsOpen D.seen D.may_leave D.failed D.stale journal.old texts }
+    ensures kept { (texts : List (List ℕ))
+        → IsOpen D.seen D.may_leave D.failed D.stale journal.old texts
+        → OnOk result (IsOpen D.seen D.may_leave D.failed D.stale journal.new texts) }
+    ensures room { OnOk result (HasRoomToRemove journal.new.room hub.new.1) }
+    ensures taken { OnOk result (TakesPuts hub.old.1 hub.new.1) }
+    ensures same { R.page hub.new.0 ≡ R.page hub.old.0 }
+{
+    keep_reserve(journal, hub, RESERVE + SPARE)?;
+    if !hub.takes_puts() {
+        journal.device.tell_room(false);
+    }
+    if !has_room_to_remove(journal, hub) {
+        return Err(HostingFault::NoRoom);
+    }
+    Ok(())
+}

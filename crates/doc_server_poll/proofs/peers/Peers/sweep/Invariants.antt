@@ -1,7 +1,0 @@
-use Rattle.std.proofs.Common.{◌≡◌}
-use Rattle.doc_server_poll.proofs.peers.Peers.sweep.Given as goal
-
-abbrev pub invariant-places : goal.invariant-places
-invariant-places g l = record {
-  same : l.self ≡ l.fn.self;
-}

@@ -1,4 +1,0 @@
-pub mod Keepings
-pub mod MioChannels
-pub mod Servers
-pub mod Silences

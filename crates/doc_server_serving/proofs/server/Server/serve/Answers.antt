@@ -1,0 +1,194 @@
+use Rattle.std.proofs.Common.{◌≤◌, refl, subst, sym, ◌∙◌}
+use Rattle.std.specs.FinMap as map
+use Rattle.doc_server_network.specs.Crashes.{Restores}
+use Rattle.doc_server_serving.specs.Crashing.{RestoresFront}
+use Rattle.doc_server_serving.proofs.Accepting.{goes_silently}
+use Rattle.doc_server_serving.proofs.Bounds.{nobody}
+use Rattle.doc_server_serving.proofs.Crashing.{at_first, leaves_weaker, turn_behind}
+use Rattle.doc_server_serving.proofs.Going.{goes_join, nobody_rests, served}
+use Rattle.doc_server_serving.proofs.server.Server.serve.Goals as goal
+
+pub turns-init : goal.turns-init
+turns-init g c = record {
+  all = c.in_ok-keep_room.ensures.all;
+  ready = c.in_ok-keep_room.ensures.ready;
+  settled = λ config is. c.in_ok-keep_room.ensures.settled config is;
+  bound = nobody c.args.self.now.peers c.args.self.now.door.most (λ k. (c.requires.new.new k).none);
+  most = refl;
+  goes = goes_silently g.R.Renderer.page g.N.Network.came g.N.Network.gone g.N.Network.wakes g.N.Network.is_free c.args.saved.now.hub
+      c.keep_room.new.saved.hub c.args.net.now c.args.self.now.peers c.keep_room.ensures.same c.keep_room.ensures.quiet;
+  crashes = λ config all is.
+      leaves_weaker g.D.Device.seen g.D.Device.moment g.D.Device.left_since (Restores config c.args.saved.now.hub.1)
+      (RestoresFront config (g.R.Renderer.page c.args.saved.now.hub.0) c.args.saved.now.hub.1 c.keep_room.ensures.quiet.leads.run)
+      c.args.saved.now.journal c.keep_room.new.saved.journal
+      (at_first config (g.R.Renderer.page c.args.saved.now.hub.0) c.args.saved.now.hub.1 c.keep_room.ensures.quiet.leads.run)
+      (c.keep_room.ensures.any_moment config c.args.saved.now.hub.1 is.0);
+}
+
+pub turn-requires-clause-all : goal.turn-requires-clause-all
+turn-requires-clause-all g c = c.turns.invariant.all
+
+pub turn-requires-clause-ready : goal.turn-requires-clause-ready
+turn-requires-clause-ready g c = c.turns.invariant.ready
+
+pub turn-requires-clause-free : goal.turn-requires-clause-free
+turn-requires-clause-free g c = c.turns.invariant.goes.free c.requires.new.free
+
+pub returns-in_err-keep_room-clause-served : goal.returns-in_err-keep_room-clause-served
+returns-in_err-keep_room-clause-served g c =
+    let goes = goes_silently g.R.Renderer.page g.N.Network.came g.N.Network.gone g.N.Network.wakes g.N.Network.is_free
+    c.args.saved.now.hub c.keep_room.new.saved.hub c.args.net.now c.args.self.now.peers c.keep_room.ensures.same
+    c.keep_room.ensures.quiet in (
+      goes.leads,
+      served g.R.Renderer.page g.N.Network.came g.N.Network.gone g.N.Network.wakes g.N.Network.is_free c.args.saved.now.hub
+          c.keep_room.new.saved.hub c.args.net.now c.args.net.now c.args.self.now.peers c.args.self.now.peers c.requires.new goes,
+    )
+
+pub returns-in_err-keep_room-clause-woken : goal.returns-in_err-keep_room-clause-woken
+returns-in_err-keep_room-clause-woken g c =
+    nobody_rests g.R.Renderer.page g.N.Network.came g.N.Network.gone g.N.Network.wakes g.N.Network.is_free c.args.saved.now.hub.1.given
+    c.args.net.now c.args.self.now.peers c.requires.new
+
+pub returns-in_err-turn-clause-served : goal.returns-in_err-turn-clause-served
+returns-in_err-turn-clause-served g c =
+    let goes = goes_join g.R.Renderer.page g.N.Network.came g.N.Network.gone g.N.Network.wakes g.N.Network.is_free c.args.saved.now.hub
+    c.turns.saved.hub c.turn.new.saved.hub c.args.net.now c.turns.net c.turn.new.net c.args.self.now.peers c.turns.self.peers
+    c.turn.new.self.peers c.turns.invariant.goes c.turn.ensures.goes in (
+      goes.leads,
+      served g.R.Renderer.page g.N.Network.came g.N.Network.gone g.N.Network.wakes g.N.Network.is_free c.args.saved.now.hub
+          c.turn.new.saved.hub c.args.net.now c.turn.new.net c.args.self.now.peers c.turn.new.self.peers c.requires.new goes,
+    )
+
+pub returns-in_err-turn-clause-woken : goal.returns-in_err-turn-clause-woken
+returns-in_err-turn-clause-woken g c =
+    c.turn.ensures.goes.woken (c.turns.invariant.goes.woken
+    (nobody_rests g.R.Renderer.page g.N.Network.came g.N.Network.gone g.N.Network.wakes g.N.Network.is_free
+    c.args.saved.now.hub.1.given c.args.net.now c.args.self.now.peers c.requires.new))
+
+pub returns-then-branch-clause-served : goal.returns-then-branch-clause-served
+returns-then-branch-clause-served g c =
+    let goes = goes_join g.R.Renderer.page g.N.Network.came g.N.Network.gone g.N.Network.wakes g.N.Network.is_free c.args.saved.now.hub
+    c.turns.saved.hub c.turn.new.saved.hub c.args.net.now c.turns.net c.turn.new.net c.args.self.now.peers c.turns.self.peers
+    c.turn.new.self.peers c.turns.invariant.goes c.turn.ensures.goes in (
+      goes.leads,
+      served g.R.Renderer.page g.N.Network.came g.N.Network.gone g.N.Network.wakes g.N.Network.is_free c.args.saved.now.hub
+          c.turn.new.saved.hub c.args.net.now c.turn.new.net c.args.self.now.peers c.turn.new.self.peers c.requires.new goes,
+    )
+
+pub returns-then-branch-clause-woken : goal.returns-then-branch-clause-woken
+returns-then-branch-clause-woken g c =
+    c.turn.ensures.goes.woken (c.turns.invariant.goes.woken
+    (nobody_rests g.R.Renderer.page g.N.Network.came g.N.Network.gone g.N.Network.wakes g.N.Network.is_free
+    c.args.saved.now.hub.1.given c.args.net.now c.args.self.now.peers c.requires.new))
+
+pub turns-preserved : goal.turns-preserved
+turns-preserved g c = record {
+  all = c.in_ok-turn.ensures.all;
+  ready = c.in_ok-turn.ensures.ready;
+  settled = λ config is. c.in_ok-turn.ensures.settled config (c.turns.invariant.settled config is);
+  bound = subst (λ most. map.len c.turn.new.self.peers ≤ most) c.turns.invariant.most
+      (c.turn.ensures.bound (subst (λ most. map.len c.turns.self.peers ≤ most) (sym c.turns.invariant.most) c.turns.invariant.bound));
+  most = c.turn.ensures.most ∙ c.turns.invariant.most;
+  goes = goes_join g.R.Renderer.page g.N.Network.came g.N.Network.gone g.N.Network.wakes g.N.Network.is_free c.args.saved.now.hub
+      c.turns.saved.hub c.turn.new.saved.hub c.args.net.now c.turns.net c.turn.new.net c.args.self.now.peers c.turns.self.peers
+      c.turn.new.self.peers c.turns.invariant.goes c.turn.ensures.goes;
+  crashes = λ config all is.
+      turn_behind g.D.Device.seen g.D.Device.moment g.D.Device.left_since config c.args.saved.now.hub.1 c.turns.saved.hub.1
+      c.turn.new.saved.hub.1 c.args.saved.now.journal c.turns.saved.journal c.turn.new.saved.journal all
+      (g.R.Renderer.page c.args.saved.now.hub.0) c.turns.invariant.goes.leads.run c.turn.ensures.goes.leads.run
+      c.turns.invariant.goes.leads.runs
+      (goes_join g.R.Renderer.page g.N.Network.came g.N.Network.gone g.N.Network.wakes g.N.Network.is_free c.args.saved.now.hub
+      c.turns.saved.hub c.turn.new.saved.hub c.args.net.now c.turns.net c.turn.new.net c.args.self.now.peers c.turns.self.peers
+      c.turn.new.self.peers c.turns.invariant.goes c.turn.ensures.goes).leads.runs (c.turns.invariant.crashes config all is)
+      (c.turn.ensures.any_moment config all (c.turns.invariant.settled config is));
+}
+
+pub returns-clause-served : goal.returns-clause-served
+returns-clause-served g c = (
+  c.turns.invariant.goes.leads,
+  served g.R.Renderer.page g.N.Network.came g.N.Network.gone g.N.Network.wakes g.N.Network.is_free
+      c.args.saved.now.hub c.turns.saved.hub c.args.net.now c.turns.net c.args.self.now.peers c.turns.self.peers c.requires.new
+      c.turns.invariant.goes,
+)
+
+pub returns-clause-woken : goal.returns-clause-woken
+returns-clause-woken g c =
+    c.turns.invariant.goes.woken
+    (nobody_rests g.R.Renderer.page g.N.Network.came g.N.Network.gone g.N.Network.wakes g.N.Network.is_free
+    c.args.saved.now.hub.1.given c.args.net.now c.args.self.now.peers c.requires.new)
+
+pub returns-in_err-keep_room-clause-bound : goal.returns-in_err-keep_room-clause-bound
+returns-in_err-keep_room-clause-bound g c =
+    nobody c.args.self.now.peers c.args.self.now.door.most (λ k. (c.requires.new.new k).none)
+
+pub returns-in_err-turn-clause-bound : goal.returns-in_err-turn-clause-bound
+returns-in_err-turn-clause-bound g c =
+    subst (λ most. map.len c.turn.new.self.peers ≤ most) c.turns.invariant.most
+    (c.turn.ensures.bound (subst (λ most. map.len c.turns.self.peers ≤ most) (sym c.turns.invariant.most) c.turns.invariant.bound))
+
+pub returns-then-branch-clause-bound : goal.returns-then-branch-clause-bound
+returns-then-branch-clause-bound g c =
+    subst (λ most. map.len c.turn.new.self.peers ≤ most) c.turns.invariant.most
+    (c.turn.ensures.bound (subst (λ most. map.len c.turns.self.peers ≤ most) (sym c.turns.invariant.most) c.turns.invariant.bound))
+
+pub returns-in_err-keep_room-clause-any_moment : goal.returns-in_err-keep_room-clause-any_moment
+returns-in_err-keep_room-clause-any_moment g c =
+    let goes = goes_silently g.R.Renderer.page g.N.Network.came g.N.Network.gone g.N.Network.wakes g.N.Network.is_free c.args.saved.now.hub
+    c.keep_room.new.saved.hub c.args.net.now c.args.self.now.peers c.keep_room.ensures.same
+    c.keep_room.ensures.quiet in (
+      goes.leads,
+      served g.R.Renderer.page g.N.Network.came g.N.Network.gone g.N.Network.wakes g.N.Network.is_free c.args.saved.now.hub
+          c.keep_room.new.saved.hub c.args.net.now c.args.net.now c.args.self.now.peers c.args.self.now.peers c.requires.new goes,
+      λ config all is.
+          leaves_weaker g.D.Device.seen g.D.Device.moment g.D.Device.left_since (Restores config c.args.saved.now.hub.1)
+          (RestoresFront config (g.R.Renderer.page c.args.saved.now.hub.0) c.args.saved.now.hub.1 c.keep_room.ensures.quiet.leads.run)
+          c.args.saved.now.journal c.keep_room.new.saved.journal
+          (at_first config (g.R.Renderer.page c.args.saved.now.hub.0) c.args.saved.now.hub.1 c.keep_room.ensures.quiet.leads.run)
+          (c.keep_room.ensures.any_moment config c.args.saved.now.hub.1 is.0),
+    )
+
+pub returns-in_err-turn-clause-any_moment : goal.returns-in_err-turn-clause-any_moment
+returns-in_err-turn-clause-any_moment g c =
+    let goes = goes_join g.R.Renderer.page g.N.Network.came g.N.Network.gone g.N.Network.wakes g.N.Network.is_free c.args.saved.now.hub
+    c.turns.saved.hub c.turn.new.saved.hub c.args.net.now c.turns.net c.turn.new.net c.args.self.now.peers c.turns.self.peers
+    c.turn.new.self.peers c.turns.invariant.goes c.turn.ensures.goes in (
+      goes.leads,
+      served g.R.Renderer.page g.N.Network.came g.N.Network.gone g.N.Network.wakes g.N.Network.is_free c.args.saved.now.hub
+          c.turn.new.saved.hub c.args.net.now c.turn.new.net c.args.self.now.peers c.turn.new.self.peers c.requires.new goes,
+      λ config all is.
+          turn_behind g.D.Device.seen g.D.Device.moment g.D.Device.left_since config c.args.saved.now.hub.1 c.turns.saved.hub.1
+          c.turn.new.saved.hub.1 c.args.saved.now.journal c.turns.saved.journal c.turn.new.saved.journal all
+          (g.R.Renderer.page c.args.saved.now.hub.0) c.turns.invariant.goes.leads.run c.turn.ensures.goes.leads.run
+          c.turns.invariant.goes.leads.runs
+          (goes_join g.R.Renderer.page g.N.Network.came g.N.Network.gone g.N.Network.wakes g.N.Network.is_free c.args.saved.now.hub
+          c.turns.saved.hub c.turn.new.saved.hub c.args.net.now c.turns.net c.turn.new.net c.args.self.now.peers c.turns.self.peers
+          c.turn.new.self.peers c.turns.invariant.goes c.turn.ensures.goes).leads.runs (c.turns.invariant.crashes config all is)
+          (c.turn.ensures.any_moment config all (c.turns.invariant.settled config is)),
+    )
+
+pub returns-then-branch-clause-any_moment : goal.returns-then-branch-clause-any_moment
+returns-then-branch-clause-any_moment g c =
+    let goes = goes_join g.R.Renderer.page g.N.Network.came g.N.Network.gone g.N.Network.wakes g.N.Network.is_free c.args.saved.now.hub
+    c.turns.saved.hub c.turn.new.saved.hub c.args.net.now c.turns.net c.turn.new.net c.args.self.now.peers c.turns.self.peers
+    c.turn.new.self.peers c.turns.invariant.goes c.turn.ensures.goes in (
+      goes.leads,
+      served g.R.Renderer.page g.N.Network.came g.N.Network.gone g.N.Network.wakes g.N.Network.is_free c.args.saved.now.hub
+          c.turn.new.saved.hub c.args.net.now c.turn.new.net c.args.self.now.peers c.turn.new.self.peers c.requires.new goes,
+      λ config all is.
+          turn_behind g.D.Device.seen g.D.Device.moment g.D.Device.left_since config c.args.saved.now.hub.1 c.turns.saved.hub.1
+          c.turn.new.saved.hub.1 c.args.saved.now.journal c.turns.saved.journal c.turn.new.saved.journal all
+          (g.R.Renderer.page c.args.saved.now.hub.0) c.turns.invariant.goes.leads.run c.turn.ensures.goes.leads.run
+          c.turns.invariant.goes.leads.runs
+          (goes_join g.R.Renderer.page g.N.Network.came g.N.Network.gone g.N.Network.wakes g.N.Network.is_free c.args.saved.now.hub
+          c.turns.saved.hub c.turn.new.saved.hub c.args.net.now c.turns.net c.turn.new.net c.args.self.now.peers c.turns.self.peers
+          c.turn.new.self.peers c.turns.invariant.goes c.turn.ensures.goes).leads.runs (c.turns.invariant.crashes config all is)
+          (c.turn.ensures.any_moment config all (c.turns.invariant.settled config is)),
+    )
+
+pub returns-clause-any_moment : goal.returns-clause-any_moment
+returns-clause-any_moment g c = (
+  c.turns.invariant.goes.leads,
+  served g.R.Renderer.page g.N.Network.came g.N.Network.gone g.N.Network.wakes g.N.Network.is_free c.args.saved.now.hub
+      c.turns.saved.hub c.args.net.now c.turns.net c.args.self.now.peers c.turns.self.peers c.requires.new c.turns.invariant.goes,
+  c.turns.invariant.crashes,
+)

@@ -1,0 +1,24 @@
+use Rattle.std.proofs.Common.{◌≡◌, ◌≤◌}
+use Rattle.std.specs.FinMap as map
+use Rattle.doc_server_network.specs.Crashes.{CrashesLeave}
+use Rattle.doc_server_network.specs.Saved.{IsAllSaved, IsReady, IsSettled}
+use Rattle.doc_store.specs.Store.{StoreState}
+use Rattle.doc_server_serving.specs.Crashing.{AreKnown, RestoresFront}
+use Rattle.doc_server_serving.specs.Invariants.{GoesOn}
+use Rattle.doc_server_serving.proofs.server.Server.serve.Given as goal
+
+abbrev pub invariant-turns : goal.invariant-turns
+invariant-turns g l = record {
+  all : IsAllSaved l.saved;
+  ready : IsReady g.D.Device.seen g.D.Device.may_leave g.D.Device.failed g.D.Device.stale l.saved;
+  settled : (config : StoreState) → IsSettled g.D.Device.seen g.D.Device.may_leave g.D.Device.failed g.D.Device.stale config l.fn.saved
+      → IsSettled g.D.Device.seen g.D.Device.may_leave g.D.Device.failed g.D.Device.stale config l.saved;
+  bound : map.len l.self.peers ≤ l.fn.self.door.most;
+  most : l.self.door.most ≡ l.fn.self.door.most;
+  goes : GoesOn g.R.Renderer.page g.N.Network.came g.N.Network.gone g.N.Network.wakes g.N.Network.is_free l.fn.saved.hub l.saved.hub
+      l.fn.net l.net l.fn.self.peers l.self.peers;
+  crashes : (config : StoreState) → AreKnown g.D.Device.seen
+      → IsSettled g.D.Device.seen g.D.Device.may_leave g.D.Device.failed g.D.Device.stale config l.fn.saved
+      → CrashesLeave g.D.Device.seen g.D.Device.moment g.D.Device.left_since
+      (RestoresFront config (g.R.Renderer.page l.fn.saved.hub.0) l.fn.saved.hub.1 goes.leads.run) l.fn.saved.journal l.saved.journal;
+}

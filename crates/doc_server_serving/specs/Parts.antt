@@ -1,0 +1,31 @@
+-- Who takes part in a turn.
+use Rattle.std.specs.Prelude.{ℕ, List, ◌++◌, Bool, false, not, ◌||◌, Option, Some, None, filter, map as mapped}
+use Rattle.std.specs.BTreeMap.Range.{entries_between}
+use Rattle.std.specs.FinMap as map
+use Rattle.std.specs.Ordering.{nat_cmp}
+use Rattle.std.specs.declared.ops.Bound.TheVariants as bounds
+use Rattle.doc_server_serving.specs.Wirings.{Peer, Table}
+
+-- a client that waits neither for the network nor for the next sweep, and isn't let go
+abbrev pub takes_part : Peer → Bool
+takes_part p = not (p.rests || p.starves || p.is_over)
+
+-- the same of the client of a number, where there is one
+abbrev pub takes_part_at : Option Peer → Bool
+takes_part_at None = false
+takes_part_at (Some p) = takes_part p
+
+-- whether the client of a number, where there is one, is let go
+abbrev pub is_over_at : Option Peer → Bool
+is_over_at None = false
+is_over_at (Some p) = p.is_over
+
+-- the numbers of those of these clients that pass
+abbrev pub numbers_of : (Peer → Bool) → List (ℕ × Peer) → List ℕ
+numbers_of test clients = mapped (λ client. client.0) (filter (λ client. test client.1) clients)
+
+-- the numbers of those that take part: first those from a number on, and then those below it
+abbrev pub turn_of : ℕ → Table → List ℕ
+turn_of first table =
+    numbers_of takes_part (entries_between nat_cmp (bounds.Included first) bounds.Unbounded (map.entries table))
+    ++ numbers_of takes_part (entries_between nat_cmp bounds.Unbounded (bounds.Excluded first) (map.entries table))

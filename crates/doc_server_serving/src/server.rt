@@ -1,0 +1,373 @@
+//! The loop over a network.
+
+ghost use Rattle.std.specs.Prelude.{◌≡◌, ◌≤◌, ℕ, true, IfOk, OnOk, if◌then◌else◌};
+ghost use Rattle.std.specs.FinMap as map;
+ghost use Rattle.std.specs.List.{list_any};
+ghost use Rattle.doc_hub.specs.Worlds.{World};
+ghost use Rattle.doc_server_network.specs.Crashes.{CrashesLeave, Restores, RestoresEither};
+ghost use Rattle.doc_server_network.specs.Saved.{IsAllSaved, IsReady, IsSaved, IsSettled, StaysSaved};
+ghost use Rattle.doc_server_serving.specs.Crashing.{AreKnown, RestoresFront};
+ghost use Rattle.doc_server_serving.specs.Hearing.{HeardAt};
+ghost use Rattle.doc_server_serving.specs.Invariants.{AreFree, GoesOn, HasServedNobody, IsServed};
+ghost use Rattle.doc_server_serving.specs.Leading.{Leads, LeadsQuietly};
+ghost use Rattle.doc_server_serving.specs.Parts.{takes_part_at, turn_of};
+ghost use Rattle.doc_server_serving.specs.Sharing.{times_among};
+ghost use Rattle.doc_server_serving.specs.Sites.{IsSameSite};
+ghost use Rattle.doc_server_serving.specs.Wirings.{AreWoken, IsFedAt, SweptAll};
+ghost use Rattle.doc_store.specs.Store.{StoreState};
+
+use crate::door::Door;
+use crate::fault::ServeFault;
+use crate::letting_go::let_go;
+use crate::named_file::NamedFile;
+use crate::peers::Peers;
+use crate::room::{growth, keep_room};
+use crate::telling::wake_told;
+use crate::turn::turn;
+use doc_page::renderer::Renderer;
+use doc_page_parts::heap::{Heap, Vec};
+use doc_server_journal::clock::seconds_of;
+use doc_server_journal::device::Device;
+use doc_server_listen::share::Share;
+use doc_server_network::network::Network;
+use doc_server_network::saved_hub::SavedHub;
+use doc_server_settling::reserve::{RESERVE, SPARE};
+use std::rt::Clock;
+use std::time::{Duration, Instant};
+
+/// How many bytes a read gives at most.
+const PIECE: usize = 16_384;
+
+/// How long the network is waited for at most, in milliseconds: a little longer than it is to the next sweep.
+const WAIT: u64 = 260;
+
+/// How long it is at least from one sweep to the next, in milliseconds.
+const SWEEP: u64 = 250;
+
+/// How long it is from one look for the journal and its room to the next, in seconds.
+const LOOK: u64 = 10;
+
+/// A server that accepts while it serves.
+#[derive(Drop)]
+pub struct Server {
+    heap: Heap,
+    peers: Peers,
+    door: Door,
+    /// After how many seconds of silence a connection ends.
+    idle_seconds: u64,
+    /// The numbers of those that take part in the turn that runs.
+    ready: Vec<u64>,
+    /// The numbers of others, for a moment.
+    numbers: Vec<u64>,
+    piece: Vec<u8>,
+    /// With whom the next turn begins.
+    first: u64,
+    /// Whether somebody takes part in the next turn of whom the network doesn't tell.
+    goes_on: bool,
+    swept: Instant,
+    /// When it was looked whether the journal can be found, and for its room.
+    looked: Instant,
+}
+
+impl Server {
+    /// A server without clients, of which it has so many at most at once. Each of them ends after so many seconds of silence, counted in
+    /// sweeps.
+    pub fn new<C: Clock>(
+        rt: &C,
+        heap: Heap,
+        connections: usize,
+        idle_seconds: u64,
+    ) -> Result<Server, ServeFault>
+        ensures empty { IfOk result (λ server. server.peers ≡ map.empty) }
+        ensures most { IfOk result (λ server. server.door.most ≡ connections) }
+    {
+        let Ok(now) = Instant::now(rt) else {
+            return Err(ServeFault::Socket);
+        };
+        let mut server = Server {
+            heap,
+            peers: Peers::new(heap),
+            door: Door::new(connections),
+            idle_seconds,
+            ready: Vec::new(heap),
+            numbers: Vec::new(heap),
+            piece: Vec::new(heap),
+            first: 0,
+            goes_on: false,
+            swept: now,
+            looked: now,
+        };
+        server.ready.reserve_exact(connections)?;
+        server.numbers.reserve_exact(connections)?;
+        server.piece.resize(PIECE, 0)?;
+        Ok(server)
+    }
+
+    /// Serves until standard input ends, where the network tells of that. The journal gets its room first.
+    pub fn serve<N: Network, D: Device + NamedFile, R: Renderer + Drop, C: Clock>(
+        &mut self,
+        rt: &C,
+        net: &mut N,
+        saved: &mut SavedHub<D, R>,
+    ) -> Result<(), ServeFault>
+        requires all { IsAllSaved saved.old }
+        requires ready { IsReady D.seen D.may_leave D.failed D.stale saved.old }
+        requires new { HasServedNobody saved.old.hub.1.given (N.came net.old) (N.gone net.old)
+            (N.is_free net.old) self.old.peers }
+        ensures served { (s : Leads (R.page saved.old.hub.0) saved.old.hub.1 saved.new.hub.1)
+            × IsServed s.run (N.came net.new) (N.gone net.new) }
+        ensures woken { AreWoken (N.wakes net.new) self.new.peers }
+        ensures bound { map.len self.new.peers ≤ self.old.door.most }
+        ensures all { OnOk result (IsAllSaved saved.new) }
+        ensures ready { OnOk result (IsReady D.seen D.may_leave D.failed D.stale saved.new) }
+        ensures settled { (config : StoreState)
+            → IsSettled D.seen D.may_leave D.failed D.stale config saved.old
+            → OnOk result (IsSettled D.seen D.may_leave D.failed D.stale config saved.new) }
+        ensures any_moment { (s : Leads (R.page saved.old.hub.0) saved.old.hub.1 saved.new.hub.1)
+            × IsServed s.run (N.came net.new) (N.gone net.new)
+            × ((config : StoreState) → AreKnown D.seen
+            → IsSettled D.seen D.may_leave D.failed D.stale config saved.old
+            → CrashesLeave D.seen D.moment D.left_since
+            (RestoresFront config (R.page saved.old.hub.0) saved.old.hub.1 s.run)
+            saved.old.journal saved.new.journal) }
+    {
+        keep_room(self.heap, saved, RESERVE + SPARE)?;
+        'turns: for _ in 0..u64::MAX {
+            if self.turn(rt, net, saved)? {
+                return Ok(());
+            }
+        }
+        Ok(())
+    }
+
+    /// One turn. True: standard input has ended, and nobody is accepted any more.
+    pub fn turn<N: Network, D: Device + NamedFile, R: Renderer + Drop, C: Clock>(
+        &mut self,
+        rt: &C,
+        net: &mut N,
+        saved: &mut SavedHub<D, R>,
+    ) -> Result<bool, ServeFault>
+        requires all { IsAllSaved saved.old }
+        requires ready { IsReady D.seen D.may_leave D.failed D.stale saved.old }
+        requires free { AreFree saved.old.hub.1.given (N.is_free net.old) }
+        ensures goes { GoesOn R.page N.came N.gone N.wakes N.is_free saved.old.hub saved.new.hub
+            net.old net.new self.old.peers self.new.peers }
+        ensures bound { map.len self.old.peers ≤ self.old.door.most
+            → map.len self.new.peers ≤ self.old.door.most }
+        ensures most { self.new.door.most ≡ self.old.door.most }
+        ensures all { OnOk result (IsAllSaved saved.new) }
+        ensures ready { OnOk result (IsReady D.seen D.may_leave D.failed D.stale saved.new) }
+        ensures settled { (config : StoreState)
+            → IsSettled D.seen D.may_leave D.failed D.stale config saved.old
+            → OnOk result (IsSettled D.seen D.may_leave D.failed D.stale config saved.new) }
+        ensures any_moment { (config : StoreState) → AreKnown D.seen
+            → IsSettled D.seen D.may_leave D.failed D.stale config saved.old
+            → CrashesLeave D.seen D.moment D.left_since
+            (RestoresEither config saved.old.hub.1 saved.new.hub.1)
+            saved.old.journal saved.new.journal }
+    {
+        net.wait(self.longest_wait())?;
+        let Ok(now) = Instant::now(rt) else {
+            return Err(ServeFault::Socket);
+        };
+        look(self.heap, &mut self.looked, saved, now)?;
+        let news = wake_told(&mut self.peers, net);
+        self.door.hear(&news);
+        self.serve_ready(rt, net, saved)?;
+        let ends = news.input_has_ended;
+        if ends {
+            return Ok(true);
+        }
+        self.end_turn(net, saved, now, news.is_lost)?;
+        Ok(false)
+    }
+
+    /// How long the network is waited for: not at all where something is left to do.
+    fn longest_wait(&self) -> Duration {
+        if self.goes_on || self.door.is_open(&self.peers) {
+            return Duration::from_millis(0);
+        }
+        Duration::from_millis(WAIT)
+    }
+
+    /// The turn of those that take part, each of them once, and behind its edits the room of the journal.
+    fn serve_ready<N: Network, D: Device + NamedFile, R: Renderer + Drop, C: Clock>(
+        &mut self,
+        rt: &C,
+        net: &mut N,
+        saved: &mut SavedHub<D, R>,
+    ) -> Result<(), ServeFault>
+        requires all { IsAllSaved saved.old }
+        requires ready { IsReady D.seen D.may_leave D.failed D.stale saved.old }
+        ensures list { OnOk result
+            (self.new.ready.items ≡ turn_of self.old.first self.old.peers) }
+        ensures each { OnOk result ((k : ℕ) → times_among self.new.ready.items k
+            ≡ (if takes_part_at (map.get self.old.peers k) then 1 else 0)) }
+        ensures goes { GoesOn R.page N.came N.gone N.wakes N.is_free saved.old.hub saved.new.hub
+            net.old net.new self.old.peers self.new.peers }
+        ensures next { OnOk result (self.new.goes_on
+            ≡ list_any (λ k. takes_part_at (map.get self.new.peers k)) self.new.ready.items) }
+        ensures heard { OnOk result ((s : GoesOn R.page N.came N.gone N.wakes N.is_free
+            saved.old.hub saved.new.hub net.old net.new self.old.peers self.new.peers)
+            × ((k : ℕ) → HeardAt k s.leads.run
+            (map.get self.old.peers k) (map.get self.new.peers k))) }
+        ensures fewer { map.len self.new.peers ≤ map.len self.old.peers }
+        ensures most { self.new.door.most ≡ self.old.door.most }
+        ensures all { OnOk result (IsAllSaved saved.new) }
+        ensures ready { OnOk result (IsReady D.seen D.may_leave D.failed D.stale saved.new) }
+        ensures settled { (config : StoreState)
+            → IsSettled D.seen D.may_leave D.failed D.stale config saved.old
+            → OnOk result (IsSettled D.seen D.may_leave D.failed D.stale config saved.new) }
+        ensures any_moment { (config : StoreState) → AreKnown D.seen
+            → IsSettled D.seen D.may_leave D.failed D.stale config saved.old
+            → CrashesLeave D.seen D.moment D.left_since
+            (RestoresEither config saved.old.hub.1 saved.new.hub.1)
+            saved.old.journal saved.new.journal }
+    {
+        self.ready.clear();
+        self.peers.collect(self.first, &mut self.ready)?;
+        let room = saved.room();
+        let mut share = Share::new();
+        turn(
+            self.heap,
+            &mut self.peers,
+            self.ready.as_slice(),
+            net,
+            saved,
+            &mut self.piece,
+            &mut share,
+            seconds_of(rt),
+        )?;
+        self.first = number_at(self.ready.as_slice(), share.behind());
+        self.goes_on = self.peers.goes_on(self.ready.as_slice());
+        if saved.room() == room {
+            return Ok(());
+        }
+        keep_room(self.heap, saved, growth(saved.room()))?;
+        Ok(())
+    }
+
+    /// Lets those go that are over, among them those whose time is, and accepts others. It is told whether a peer is gone.
+    fn end_turn<N: Network, D: Device, R: Renderer + Drop>(
+        &mut self,
+        net: &mut N,
+        saved: &mut SavedHub<D, R>,
+        now: Instant,
+        is_lost: bool,
+    ) -> Result<(), ServeFault>
+        requires free { AreFree saved.old.hub.1.given (N.is_free net.old) }
+        ensures goes { GoesOn R.page N.came N.gone N.wakes N.is_free saved.old.hub saved.new.hub
+            net.old net.new self.old.peers self.new.peers }
+        ensures bound { map.len self.old.peers ≤ self.old.door.most
+            → map.len self.new.peers ≤ self.old.door.most }
+        ensures most { self.new.door.most ≡ self.old.door.most }
+        ensures site { IsSameSite saved.old.hub.1 saved.new.hub.1 }
+        ensures saved { StaysSaved D.seen D.may_leave D.failed D.stale saved.old saved.new }
+        ensures ready { IsReady D.seen D.may_leave D.failed D.stale saved.old
+            → IsReady D.seen D.may_leave D.failed D.stale saved.new }
+        ensures journal { saved.new.journal ≡ saved.old.journal }
+        ensures unsaved { saved.new.unsaved ≡ saved.old.unsaved }
+    {
+        let is_swept = self.sweep(now)?;
+        self.let_over_go(net, saved, is_swept || is_lost)?;
+        self.door.accept(self.heap, &mut self.peers, net, saved);
+        Ok(())
+    }
+
+    /// Lets those go that are over. They are looked for among all where it is due, or where one of those that took part is over.
+    fn let_over_go<N: Network, D: Device, R: Renderer + Drop>(
+        &mut self,
+        net: &mut N,
+        saved: &mut SavedHub<D, R>,
+        is_due: bool,
+    ) -> Result<(), ServeFault>
+        ensures goes { GoesOn R.page N.came N.gone N.wakes N.is_free saved.old.hub saved.new.hub
+            net.old net.new self.old.peers self.new.peers }
+        ensures fewer { map.len self.new.peers ≤ map.len self.old.peers }
+        ensures most { self.new.door.most ≡ self.old.door.most }
+        ensures site { IsSameSite saved.old.hub.1 saved.new.hub.1 }
+        ensures saved { StaysSaved D.seen D.may_leave D.failed D.stale saved.old saved.new }
+        ensures ready { IsReady D.seen D.may_leave D.failed D.stale saved.old
+            → IsReady D.seen D.may_leave D.failed D.stale saved.new }
+        ensures journal { saved.new.journal ≡ saved.old.journal }
+        ensures unsaved { saved.new.unsaved ≡ saved.old.unsaved }
+    {
+        let looks = is_due || self.peers.has_over(self.ready.as_slice());
+        if !looks {
+            return Ok(());
+        }
+        self.numbers.clear();
+        self.peers.collect_over(&mut self.numbers)?;
+        let_go(&mut self.peers, self.numbers.as_slice(), net, saved);
+        Ok(())
+    }
+
+    /// Ends those whose time is over, from time to time, and tries again where memory was lacking. True: it is time.
+    fn sweep(&mut self, now: Instant) -> Result<bool, ServeFault>
+        ensures swept { SweptAll self.old.peers self.new.peers }
+        ensures fed { IfOk result (λ is_made. is_made ≡ true
+            → (k : ℕ) → IsFedAt (map.get self.new.peers k)) }
+        ensures most { self.new.door.most ≡ self.old.door.most }
+    {
+        if now.duration_since(self.swept) < Duration::from_millis(SWEEP) {
+            return Ok(false);
+        }
+        self.swept = now;
+        self.door.wake();
+        self.numbers.clear();
+        self.peers.collect_all(&mut self.numbers)?;
+        self.peers.sweep(self.numbers.as_slice(), self.idle_seconds);
+        self.goes_on = self.goes_on || self.peers.goes_on(self.numbers.as_slice());
+        Ok(true)
+    }
+}
+
+/// Whether the journal can be found again, where there is one.
+fn is_found<D: Device + NamedFile, R: Renderer + Drop>(saved: &SavedHub<D, R>) -> bool {
+    match saved.device() {
+        Some(device) => device.is_found(),
+        None => true,
+    }
+}
+
+/// Looks from time to time whether the journal can be found again, and for its room. Where it can't be found, what is answered from now on
+/// would be lost.
+fn look<D: Device + NamedFile, R: Renderer + Drop>(
+    heap: Heap,
+    looked: &mut Instant,
+    saved: &mut SavedHub<D, R>,
+    now: Instant,
+) -> Result<(), ServeFault>
+    requires all { IsAllSaved saved.old }
+    requires ready { IsReady D.seen D.may_leave D.failed D.stale saved.old }
+    ensures quiet { LeadsQuietly (R.page saved.old.hub.0) saved.old.hub.1 saved.new.hub.1 }
+    ensures same { R.page saved.new.hub.0 ≡ R.page saved.old.hub.0 }
+    ensures all { OnOk result (IsAllSaved saved.new) }
+    ensures ready { OnOk result (IsReady D.seen D.may_leave D.failed D.stale saved.new) }
+    ensures settled { (config : StoreState)
+        → IsSettled D.seen D.may_leave D.failed D.stale config saved.old
+        → OnOk result (IsSettled D.seen D.may_leave D.failed D.stale config saved.new) }
+    ensures any_moment { (config : StoreState) (begin : World)
+        → IsSaved D.seen D.may_leave D.failed D.stale config begin saved.old
+        → CrashesLeave D.seen D.moment D.left_since
+        (Restores config begin) saved.old.journal saved.new.journal }
+    ensures site { IsSameSite saved.old.hub.1 saved.new.hub.1 }
+{
+    if now.duration_since(*looked) < Duration::from_secs(LOOK) {
+        return Ok(());
+    }
+    *looked = now;
+    if !is_found(saved) {
+        return Err(ServeFault::CannotWrite);
+    }
+    keep_room(heap, saved, RESERVE + SPARE)?;
+    Ok(())
+}
+
+/// The number at that place, or 0 where the list is shorter.
+fn number_at(numbers: &[u64], place: usize) -> u64 {
+    match numbers.get(place) {
+        Some(number) => *number,
+        None => 0,
+    }
+}

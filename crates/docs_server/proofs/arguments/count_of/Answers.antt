@@ -1,7 +1,0 @@
-use Rattle.std.proofs.Common.{sym, ◌∙◌}
-use Rattle.docs_server.proofs.CountSteps.{number_missing}
-use Rattle.docs_server.proofs.arguments.count_of.Goals as goal
-
-pub returns-in-Err : goal.returns-in-Err
-returns-in-Err c =
-    number_missing c.args.word.now c.in-Err.field-0 (sym c.are_digits.ensures ∙ c.if-not-are_digits.false) c.in-Err.ensures.value.0

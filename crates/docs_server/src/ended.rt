@@ -1,0 +1,28 @@
+//! The status that `listen` ends with.
+
+use crate::listen_fault::ListenFault;
+use doc_page::renderer::Renderer;
+use doc_server_hosting::ended::Ended;
+use doc_server_journal::device::Device;
+use doc_server_network::network::Network;
+use doc_server_serving::fault::ServeFault;
+use doc_server_serving::named_file::NamedFile;
+
+/// The status to end with, where the server was told to stop. Where it can't write and its journal isn't found under its name, that is why.
+pub fn ended_status<D: Device + NamedFile, N: Network, R: Renderer + Drop>(
+    ended: &Ended<D, N, R>,
+) -> Result<u8, ListenFault> {
+    match ended.served {
+        Ok(()) => Ok(0),
+        Err(ServeFault::CannotWrite) if !is_found(ended) => Err(ListenFault::Moved),
+        Err(fault) => Err(ListenFault::from(fault)),
+    }
+}
+
+/// Whether the journal is found under its name, where there is one.
+fn is_found<D: Device + NamedFile, N: Network, R: Renderer + Drop>(ended: &Ended<D, N, R>) -> bool {
+    match ended.saved.device() {
+        Some(device) => device.is_found(),
+        None => true,
+    }
+}
