@@ -43,8 +43,7 @@ fn names_in(heap: Heap, array: &Array) -> Result<Option<List<Text>>, Memory>
     Ok(Some(copies_of(heap, &names)?))
 }
 
-/// Whether each text is the name of a folder in another.
-pub fn are_folder_names(names: &[&str]) -> bool
+fn are_folder_names(names: &[&str]) -> bool
     ensures { result ≡ are_folder_names (texts_of names.now) }
 {
     for name in names {
