@@ -1,0 +1,3 @@
+pub mod CutSteps
+mod Examples
+pub mod NumberSteps
