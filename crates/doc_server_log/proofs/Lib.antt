@@ -1,6 +1,0 @@
-pub mod EscapingSteps
-mod Examples
-mod LineExamples
-pub mod LineSteps
-pub mod PaddingSteps
-pub mod PlainSteps

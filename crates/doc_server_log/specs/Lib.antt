@@ -1,8 +1,0 @@
-pub mod Dates
-pub mod JsonLines
-pub mod Laws
-pub mod Moments
-pub mod Names
-pub mod PlainLines
-pub mod Readers
-pub mod RequestLines

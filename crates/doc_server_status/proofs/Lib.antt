@@ -1,3 +1,0 @@
-pub mod CutSteps
-mod Examples
-pub mod NumberSteps
