@@ -8,7 +8,7 @@ LINES has scenes: a line `## scene: NAME`, and behind it a whole standard input 
     # refuse            each growth of the call is refused, once alone and once with all that follow up to the answer. The answer is
                         then as with ample memory, and so are all other lines. Or it has the word `memory` or `Memory` in it, and all
                         other lines are as they are where a comment stands in place of the call
-    # refuse as WORD    the same, but an answer that isn't as with ample memory has WORD in it
+    # refuse as WORD    the same, but an answer that isn't as with ample memory has WORD in it; of `WORD or WORD`, one of them
     # refuse each       the same, and a growth that is refused alone never leaves the answer as with ample memory
     # refuse, at most N growths     the same, and the call takes no more than N
     # refuse, N change nothing      the same, and of the growths that are refused alone just N leave all as with ample memory
@@ -33,12 +33,12 @@ class Mark:
 
     def __init__(self, at, text, given):
         self.at, self.text, self.is_each = at, text.encode(), given["each"] is not None
-        self.word = given["word"].encode() if given["word"] else None
+        self.words = given["word"].encode().split(b" or ") if given["word"] else None
         self.most = None if given["most"] is None else int(given["most"])
         self.idle = None if given["idle"] is None else int(given["idle"])
 
     def is_want(self, answer):
-        return re.search(rb"[mM]emory", answer) is not None if self.word is None else self.word in answer
+        return re.search(rb"[mM]emory", answer) is not None if self.words is None else any(word in answer for word in self.words)
 
 
 class Ran:
@@ -162,7 +162,7 @@ class Scene:
             line = self.lines[mark.at][:60]
             if answer == NO_CALL:
                 return f"{line}: no call"
-            if mark.word is None and mark.is_want(answer):
+            if mark.words is None and mark.is_want(answer):
                 return f"{line}: the answer speaks of memory already"
         return None
 
