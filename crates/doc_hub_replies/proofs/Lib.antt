@@ -4,3 +4,4 @@ mod EditLaws
 pub mod GuestSteps
 mod MediaExamples
 mod ServingSteps
+pub mod TakingLaws
