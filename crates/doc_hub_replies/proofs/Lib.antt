@@ -4,4 +4,3 @@ mod EditLaws
 pub mod GuestSteps
 mod MediaExamples
 mod ServingSteps
-pub mod TakingLaws
