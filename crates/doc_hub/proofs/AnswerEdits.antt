@@ -5,16 +5,16 @@ use Rattle.std.specs.Prelude.{not, ◌&&◌, ◌||◌, ◌==◌, Option, Some, N
 use Rattle.doc_http.specs.declared.request.Request.{Request}
 use Rattle.doc_http_replies.specs.Heads.{Dress}
 use Rattle.doc_media.specs.Media.{Beside, Media, beside_of}
-use Rattle.doc_hub_media.proofs.MediaLaws.{media_edit_nothing}
-use Rattle.doc_hub_media.specs.MediaAnswers.{MediaResponse, media_answer, media_response}
+use Rattle.doc_hub_replies.proofs.MediaLaws.{media_edit_nothing}
+use Rattle.doc_hub_replies.specs.MediaAnswers.{MediaResponse, media_answer, media_response}
 use Rattle.doc_hub_answers.proofs.AnswerEdits.{response_can}
 use Rattle.doc_hub_answers.specs.Edits.{CanBeMade, puts_taken}
 use Rattle.doc_hub_answers.specs.Replies.{Renders, Response, plain_answer, refused, response_to}
 use Rattle.doc_hub_answers.specs.declared.answer.Answer.{Answer}
 use Rattle.doc_hub_answers.specs.declared.edit.Edit.{Edit}
-use Rattle.doc_hub_editing.proofs.EditsCan.{EditingCan, edit_response_can}
-use Rattle.doc_hub_editing.specs.EditAnswers.{edit_response}
-use Rattle.doc_hub_editing.specs.EditResponses.{EditingResponse}
+use Rattle.doc_hub_replies.proofs.EditsCan.{EditingCan, edit_response_can}
+use Rattle.doc_hub_replies.specs.EditAnswers.{edit_response}
+use Rattle.doc_hub_replies.specs.EditResponses.{EditingResponse}
 use Rattle.doc_hub_asking.specs.Asking.{Asking, is_guest, row_of}
 use Rattle.doc_hub_replies.specs.PeopleAnswers.{people_reply}
 use Rattle.doc_hub_replies.specs.Answers.{answer_by, answer_of, asks_for_style, dress_by, dress_for, edited_or, is_for_people}

@@ -32,23 +32,23 @@ use Rattle.doc_hub_asking.specs.Asking as asked
 use Rattle.doc_hub_replies.specs.PeopleAnswers.{offers_for}
 use Rattle.doc_hub_editing_refusals.specs.Asked.{EditRequest}
 use Rattle.doc_hub_editing_refusals.specs.Asked as requests
-use Rattle.doc_hub_editing.specs.EditRequests.{edit_request_of}
-use Rattle.doc_hub_editing.specs.EditResponses.{EditingReply, EditingResponse, Plain, full_by, refused_for, unless, unmet_by}
-use Rattle.doc_hub_editing.specs.EditAnswers.{begins_path, by_entry, by_other, by_owner, edit_response, folder_begun, form_at, groups_put}
-use Rattle.doc_hub_editing.specs.EditAnswers.{move_done, move_named, move_page, new_form, no_alias_room, no_room, not_found, open_form}
-use Rattle.doc_hub_editing.specs.EditAnswers.{page_of, preview_at, put_at, put_done, put_page, put_text, read_source, regroup_done}
-use Rattle.doc_hub_editing.specs.EditAnswers.{regroup_named, regroup_page, remove_page, response_if, source_or_goal}
+use Rattle.doc_hub_replies.specs.EditRequests.{edit_request_of}
+use Rattle.doc_hub_replies.specs.EditResponses.{EditingReply, EditingResponse, Plain, full_by, refused_for, unless, unmet_by}
+use Rattle.doc_hub_replies.specs.EditAnswers.{begins_path, by_entry, by_other, by_owner, edit_response, folder_begun, form_at, groups_put}
+use Rattle.doc_hub_replies.specs.EditAnswers.{move_done, move_named, move_page, new_form, no_alias_room, no_room, not_found, open_form}
+use Rattle.doc_hub_replies.specs.EditAnswers.{page_of, preview_at, put_at, put_done, put_page, put_text, read_source, regroup_done}
+use Rattle.doc_hub_replies.specs.EditAnswers.{regroup_named, regroup_page, remove_page, response_if, source_or_goal}
 use Rattle.doc_hub_answers.specs.Edits.{puts_taken}
 use Rattle.doc_hub_replies.specs.Answers.{answer_beside, answer_by, answer_of, asks_for_style, dress_by, dress_for, edited_or}
 use Rattle.doc_hub_replies.specs.Answers.{is_for_people}
 use Rattle.doc_hub_replies.specs.Answers.{media_or, style_answer, unedited}
-use Rattle.doc_hub_media.specs.MediaAnswers.{MediaResponse, media_answer, media_response, kept_at, move_to, read_alone, where_kept}
-use Rattle.doc_hub_media.specs.MediaAnswers as media_answers
-use Rattle.doc_hub_media.specs.MediaRequests.{MediaRequest}
-use Rattle.doc_hub_media.specs.MediaRequests as media_requests
+use Rattle.doc_hub_replies.specs.MediaAnswers.{MediaResponse, media_answer, media_response, kept_at, move_to, read_alone, where_kept}
+use Rattle.doc_hub_replies.specs.MediaAnswers as media_answers
+use Rattle.doc_hub_replies.specs.MediaRequests.{MediaRequest}
+use Rattle.doc_hub_replies.specs.MediaRequests as media_requests
 use Rattle.doc_hub.proofs.AnswerEdits.{not_editing}
 use Rattle.doc_hub.proofs.Apart.{StaysFree}
-use Rattle.doc_hub_media.proofs.MediaLaws.{media_edit_nothing}
+use Rattle.doc_hub_replies.proofs.MediaLaws.{media_edit_nothing}
 use Rattle.doc_hub.specs.Worlds.{World, answer_in, asking_of, has_medium, reader_of}
 
 some_none : {X Y : Type 0} (x : X) → Some x ≡ None → Y

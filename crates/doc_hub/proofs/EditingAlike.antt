@@ -16,10 +16,10 @@ use Rattle.doc_hub_answers.specs.declared.method.Method.{Method}
 use Rattle.doc_hub_answers.specs.declared.method.Method.TheVariants.{Get, Head, Put, Delete, Post, Other}
 use Rattle.doc_hub_editing_refusals.specs.Asked.{EditRequest}
 use Rattle.doc_hub_editing_refusals.specs.Asked as requests
-use Rattle.doc_hub_editing.specs.EditAnswers.{by_entry, by_other, by_owner, edit_response, response_by, response_if}
-use Rattle.doc_hub_editing.specs.EditRequests.{asked_by, at_edit_route, at_page, at_route, at_source, edit_request_of, if_posted}
-use Rattle.doc_hub_editing.specs.EditRequests.{if_put, if_read}
-use Rattle.doc_hub_editing.specs.EditResponses.{EditingResponse}
+use Rattle.doc_hub_replies.specs.EditAnswers.{by_entry, by_other, by_owner, edit_response, response_by, response_if}
+use Rattle.doc_hub_replies.specs.EditRequests.{asked_by, at_edit_route, at_page, at_route, at_source, edit_request_of, if_posted}
+use Rattle.doc_hub_replies.specs.EditRequests.{if_put, if_read}
+use Rattle.doc_hub_replies.specs.EditResponses.{EditingResponse}
 use Rattle.doc_hub_asking.specs.Asking.{Asking, row_of}
 use Rattle.doc_hub_asking.specs.Asking as asked
 use Rattle.doc_hub_replies.specs.PeopleAnswers.{offers_for}

@@ -19,15 +19,15 @@ use Rattle.doc_hub_answers.specs.declared.edit.Edit.{Edit}
 use Rattle.doc_hub_answers.specs.declared.method.Method.{Method}
 use Rattle.doc_hub_answers.specs.declared.method.Method.TheVariants.{Get, Head, Put, Delete, Post, Other}
 use Rattle.doc_hub_editing_refusals.specs.Asked.{EditRequest}
-use Rattle.doc_hub_editing.proofs.EditLaws.{edits_are_of_what_was_named, nothing_is_replaced_unasked, owners_alone}
-use Rattle.doc_hub_editing.specs.EditAnswers.{by_entry, edit_response, response_if}
-use Rattle.doc_hub_editing.specs.EditRequests.{asked_by, at_page, at_route, edit_request_of}
-use Rattle.doc_hub_editing.specs.Laws.{path_of_edit}
+use Rattle.doc_hub_replies.proofs.EditingLaws.{edits_are_of_what_was_named, nothing_is_replaced_unasked, owners_alone}
+use Rattle.doc_hub_replies.specs.EditAnswers.{by_entry, edit_response, response_if}
+use Rattle.doc_hub_replies.specs.EditRequests.{asked_by, at_page, at_route, edit_request_of}
+use Rattle.doc_hub_replies.specs.EditLaws.{path_of_edit}
 use Rattle.doc_hub_asking.specs.Asking.{Asking, row_of}
 use Rattle.doc_hub_asking.specs.Asking as asked
 use Rattle.doc_media.specs.Media.{Beside, beside_of}
 use Rattle.doc_http_replies.specs.Heads.{Dress}
-use Rattle.doc_hub_media.specs.MediaAnswers.{MediaResponse, media_answer, media_response}
+use Rattle.doc_hub_replies.specs.MediaAnswers.{MediaResponse, media_answer, media_response}
 use Rattle.doc_hub_answers.specs.declared.answer.Answer.{Answer}
 use Rattle.doc_hub_replies.specs.Answers.{answer_by, answer_of, dress_by, dress_for, edited_or, media_or, is_for_people, style_answer}
 use Rattle.doc_hub_replies.specs.Answers.{asks_for_style, unedited}
@@ -35,7 +35,7 @@ use Rattle.doc_hub.specs.EditingLaws.{IsEditedBy, NamesWhatStood, NoPageIsReplac
 use Rattle.doc_hub.specs.Runs.{Happened}
 use Rattle.doc_hub.specs.Worlds.{World, asking_of, reader_of}
 use Rattle.doc_hub.proofs.AnswerEdits.{not_editing}
-use Rattle.doc_hub_media.proofs.MediaLaws.{media_edit_nothing}
+use Rattle.doc_hub_replies.proofs.MediaLaws.{media_edit_nothing}
 
 absent : {X Y : Type 0} (x : X) → None ≡ Some x → Y
 absent {X = X} x is = absurd (unlike x is)

@@ -23,12 +23,12 @@ use Rattle.doc_hub_asking.specs.Asking as asked
 use Rattle.doc_hub_replies.specs.PeopleAnswers.{offers_for}
 use Rattle.doc_hub_editing_refusals.specs.Asked.{EditRequest}
 use Rattle.doc_hub_editing_refusals.specs.Asked as requests
-use Rattle.doc_hub_editing.specs.EditRequests.{edit_request_of}
-use Rattle.doc_hub_editing.specs.EditResponses.{EditingReply, EditingResponse, Plain, full_by, refused_for, unless, unmet_by}
-use Rattle.doc_hub_editing.specs.EditAnswers.{begins_path, by_entry, by_other, by_owner, edit_response, folder_begun, form_at, groups_put}
-use Rattle.doc_hub_editing.specs.EditAnswers.{move_done, move_named, move_page, new_form, no_alias_room, no_room, not_found, open_form}
-use Rattle.doc_hub_editing.specs.EditAnswers.{page_of, preview_at, put_at, put_done, put_page, put_text, read_source, regroup_done}
-use Rattle.doc_hub_editing.specs.EditAnswers.{regroup_named, regroup_page, remove_page, response_by, response_if, source_or_goal}
+use Rattle.doc_hub_replies.specs.EditRequests.{edit_request_of}
+use Rattle.doc_hub_replies.specs.EditResponses.{EditingReply, EditingResponse, Plain, full_by, refused_for, unless, unmet_by}
+use Rattle.doc_hub_replies.specs.EditAnswers.{begins_path, by_entry, by_other, by_owner, edit_response, folder_begun, form_at, groups_put}
+use Rattle.doc_hub_replies.specs.EditAnswers.{move_done, move_named, move_page, new_form, no_alias_room, no_room, not_found, open_form}
+use Rattle.doc_hub_replies.specs.EditAnswers.{page_of, preview_at, put_at, put_done, put_page, put_text, read_source, regroup_done}
+use Rattle.doc_hub_replies.specs.EditAnswers.{regroup_named, regroup_page, remove_page, response_by, response_if, source_or_goal}
 use Rattle.doc_hub.proofs.AnswerEdits.{HoldsFor}
 use Rattle.doc_hub.proofs.ResponsePaths.{AtPaths, IsPath, written_is_path}
 

@@ -36,7 +36,7 @@ use Rattle.doc_hub.specs.Connections.{pushed_onto, finished, backlog_limit}
 use Rattle.doc_hub_answers.specs.Edits.{puts_taken}
 use Rattle.doc_hub_answers.specs.Replies.{Renders, fault_bytes}
 use Rattle.doc_hub_asking.specs.Asking.{known_by}
-use Rattle.doc_hub_media.specs.MediaAnswers.{media_response}
+use Rattle.doc_hub_replies.specs.MediaAnswers.{media_response}
 use Rattle.doc_hub_replies.specs.Answers.{answer_of}
 use Rattle.doc_http_replies.specs.Heads.{dressed_bytes, dressed_head}
 use Rattle.doc_hub.specs.StepEdits.{edit_of_step}

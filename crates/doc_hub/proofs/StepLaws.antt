@@ -25,9 +25,9 @@ use Rattle.doc_hub_answers.specs.Edits.{puts_taken}
 use Rattle.doc_hub_answers.specs.Replies.{Renders, Response, at_route, edit_at, edit_page, method_of, on_route, only_reply, plain_answer}
 use Rattle.doc_hub_answers.specs.Replies.{put_by, reads, refused, reply_at, response_to}
 use Rattle.doc_hub_asking.specs.Asking.{Asking, is_guest, row_of}
-use Rattle.doc_hub_editing.specs.EditAnswers.{edit_response}
+use Rattle.doc_hub_replies.specs.EditAnswers.{edit_response}
 use Rattle.doc_hub_replies.specs.PeopleAnswers.{people_reply}
-use Rattle.doc_hub_media.specs.MediaAnswers.{MediaResponse, media_response}
+use Rattle.doc_hub_replies.specs.MediaAnswers.{MediaResponse, media_response}
 use Rattle.doc_hub_replies.specs.Answers.{answer_by, answer_of, asks_for_style, browsed, dress_by, dress_for, edited_or, is_for_people}
 use Rattle.doc_hub_replies.specs.Answers.{kept_from_guests}
 use Rattle.doc_hub_replies.specs.Answers.{media_or, people_answer, style_answer, unedited}

@@ -13,7 +13,7 @@ use Rattle.doc_store_readers.specs.Pages.{Page}
 use Rattle.doc_store_tags.specs.Tags.{tag_of}
 use Rattle.doc_hub_answers.specs.Replies.{Renders}
 use Rattle.doc_hub_answers.specs.declared.edit.Edit.{Edit}
-use Rattle.doc_hub_editing.specs.Laws.{path_of_edit}
+use Rattle.doc_hub_replies.specs.EditLaws.{path_of_edit}
 use Rattle.doc_hub.specs.FreshLaws.{IsAnswered}
 use Rattle.doc_hub.specs.Runs.{Happened, Runs}
 use Rattle.doc_hub.specs.Worlds.{World, answer_in}

@@ -6,3 +6,5 @@ mod FormSteps
 mod EditRequestExamples
 pub mod EditLaws
 mod PreviewSteps
+-- laws of crates below, for the crates above
+pub use Rattle.doc_hub_people.proofs.AskingLaws

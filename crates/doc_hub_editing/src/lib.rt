@@ -21,3 +21,5 @@ mod puts;
 mod regroups;
 mod removals;
 mod sources;
+
+pub use doc_hub_people::{people, visit};

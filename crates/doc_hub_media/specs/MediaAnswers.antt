@@ -29,8 +29,8 @@ use Rattle.doc_hub_answers.specs.Replies.{Renders, not_allowed}
 use Rattle.doc_hub_answers.specs.declared.answer.Answer.{Answer}
 use Rattle.doc_hub_asking.specs.Asking.{Asking, owns}
 use Rattle.doc_hub_asking.specs.Asking as asked
-use Rattle.doc_hub_people.specs.PeopleAnswers as people
-use Rattle.doc_hub_people.specs.PeopleAnswers.{offers_for}
+use Rattle.doc_hub_editing.specs.PeopleAnswers as people
+use Rattle.doc_hub_editing.specs.PeopleAnswers.{offers_for}
 use Rattle.doc_hub_editing_refusals.specs.Asked.{EditRequest}
 use Rattle.doc_hub_editing_refusals.specs.Asked as requests
 use Rattle.doc_hub_editing.specs.EditAnswers.{not_found, page_of}

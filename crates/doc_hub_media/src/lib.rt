@@ -9,3 +9,5 @@ pub mod laws;
 pub mod media_desk;
 pub mod media_request;
 pub mod media_visit;
+
+pub use doc_hub_editing::{edit_request, editing, people, visit};

@@ -9,7 +9,7 @@ ghost use Rattle.doc_hub_editing_refusals.specs.AskedSteps.{edit_request_shown};
 ghost use Rattle.doc_hub_editing.specs.EditAnswers.{not_found};
 ghost use Rattle.doc_hub_editing.specs.EditResponses.{only_reply};
 ghost use Rattle.doc_hub_editing.specs.EditSteps.{editing_sent};
-ghost use Rattle.doc_hub_people.specs.PeopleAnswers.{offers_for};
+ghost use Rattle.doc_hub_editing.specs.PeopleAnswers.{offers_for};
 ghost use Rattle.doc_hub_media.specs.MediaAnswers.{at_itself, by_entry, edit_at, form_at, form_kept};
 ghost use Rattle.doc_hub_media.specs.MediaSteps.{media_request_shown, sent_if};
 
@@ -23,7 +23,7 @@ use doc_hub_answers::answer::Answer;
 use doc_hub_answers::exchange::Exchange;
 use doc_hub_editing::desk::Desk;
 use doc_hub_editing_refusals::edit_request::EditRequest;
-use doc_hub_people::visit::Visit;
+use doc_hub_editing::visit::Visit;
 use doc_media::media::Media;
 use doc_page::renderer::Renderer;
 use doc_page_encoding::encoding::push_encoded_path;

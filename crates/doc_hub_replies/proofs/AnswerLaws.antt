@@ -15,13 +15,13 @@ use Rattle.doc_hub_answers.specs.AnswerSteps.{entry_of}
 use Rattle.doc_hub_answers.specs.Replies.{Renders, method_of, plain_answer, reads, response_to}
 use Rattle.doc_hub_answers.specs.declared.answer.Answer.{Answer}
 use Rattle.doc_hub_answers.specs.declared.edit.Edit.{Edit}
-use Rattle.doc_hub_people.proofs.AskingLaws.{bearers_alone_are_known, guests_own_nothing}
+use Rattle.doc_hub_media.proofs.AskingLaws.{bearers_alone_are_known, guests_own_nothing}
 use Rattle.doc_hub_asking.specs.Asking.{Asking, is_guest, known_by, reader_asking, row_of}
 use Rattle.doc_hub_asking.specs.Asking as asked
-use Rattle.doc_hub_people.specs.PeopleAnswers.{people_reply}
-use Rattle.doc_hub_editing.specs.EditAnswers.{edit_response}
-use Rattle.doc_hub_editing.specs.EditRequests.{asked_by, edit_request_of}
-use Rattle.doc_hub_editing.specs.EditResponses.{EditingResponse, editing_answer}
+use Rattle.doc_hub_media.specs.PeopleAnswers.{people_reply}
+use Rattle.doc_hub_media.specs.EditAnswers.{edit_response}
+use Rattle.doc_hub_media.specs.EditRequests.{asked_by, edit_request_of}
+use Rattle.doc_hub_media.specs.EditResponses.{EditingResponse, editing_answer}
 use Rattle.doc_hub_media.proofs.MediaLaws.{media_edit_nothing}
 use Rattle.doc_hub_media.specs.MediaAnswers.{MediaResponse, media_response}
 use Rattle.doc_hub_replies.proofs.EditLaws.{EditsNothing, guests_edit_nothing_so, nobody_edits, nothing_is_asked, who_reads_edits_nothing}

@@ -29,8 +29,8 @@ use Rattle.doc_hub_asking.specs.Asking.{Asking, is_guest, owns, reader_asking, r
 use Rattle.doc_hub_asking.specs.Asking as asked
 use Rattle.doc_hub_editing_refusals.specs.Asked.{EditRequest}
 use Rattle.doc_hub_editing_refusals.specs.Asked as requests
-use Rattle.doc_hub_editing.specs.EditAnswers as editing
-use Rattle.doc_hub_editing.specs.EditResponses.{EditingResponse, refused, reply_sent}
+use Rattle.doc_hub_media.specs.EditAnswers as editing
+use Rattle.doc_hub_media.specs.EditResponses.{EditingResponse, refused, reply_sent}
 use Rattle.doc_hub_media.proofs.MediaLaws.{media_edit_nothing}
 use Rattle.doc_hub_media.specs.MediaAnswers.{MediaResponse, Medium, Other, by_entry, is_preview_kept, keeps_preview, kept_at}
 use Rattle.doc_hub_media.specs.MediaAnswers.{media_answer, media_response, medium_reply, response_by, where_kept}

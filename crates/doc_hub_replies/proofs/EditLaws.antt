@@ -18,15 +18,15 @@ use Rattle.doc_hub_answers.specs.declared.method.Method.{Method}
 use Rattle.doc_hub_answers.specs.declared.method.Method.TheVariants.{Get, Head, Put, Delete, Post, Other}
 use Rattle.doc_hub_asking.specs.Asking.{Asking, is_guest, owns, row_of}
 use Rattle.doc_hub_asking.specs.Asking as asked
-use Rattle.doc_hub_people.specs.Laws.{OwnsNothing}
-use Rattle.doc_hub_people.specs.PeopleAnswers.{offers_for}
+use Rattle.doc_hub_media.specs.PeopleLaws.{OwnsNothing}
+use Rattle.doc_hub_media.specs.PeopleAnswers.{offers_for}
 use Rattle.doc_hub_editing_refusals.specs.Asked.{EditRequest}
 use Rattle.doc_hub_editing_refusals.specs.Asked as requests
-use Rattle.doc_hub_editing.specs.EditAnswers.{begins_path, by_entry, by_other, by_owner, edit_response, folder_begun, forbidden, form_at}
-use Rattle.doc_hub_editing.specs.EditAnswers.{is_preview, new_form, not_found, open_form, read_source, response_if}
-use Rattle.doc_hub_editing.specs.EditAnswers.{shows_preview, source_or_goal, unauthorized}
-use Rattle.doc_hub_editing.specs.EditRequests.{asked_by, at_edit_route, at_route, edit_request_of}
-use Rattle.doc_hub_editing.specs.EditResponses.{EditingReply, EditingResponse, unless, unmet_by}
+use Rattle.doc_hub_media.specs.EditAnswers.{begins_path, by_entry, by_other, by_owner, edit_response, folder_begun, forbidden, form_at}
+use Rattle.doc_hub_media.specs.EditAnswers.{is_preview, new_form, not_found, open_form, read_source, response_if}
+use Rattle.doc_hub_media.specs.EditAnswers.{shows_preview, source_or_goal, unauthorized}
+use Rattle.doc_hub_media.specs.EditRequests.{asked_by, at_edit_route, at_route, edit_request_of}
+use Rattle.doc_hub_media.specs.EditResponses.{EditingReply, EditingResponse, unless, unmet_by}
 
 -- ---- to whom they are answered
 

@@ -13,7 +13,7 @@ use Rattle.doc_hub_answers.specs.declared.method.Method.{Method}
 use Rattle.doc_hub_answers.specs.declared.method.Method.TheVariants.{Get, Head, Put, Delete, Post, Other}
 use Rattle.doc_hub_asking.specs.Asking.{Asking, is_guest, row_of}
 use Rattle.doc_hub_asking.specs.Asking as asked
-use Rattle.doc_hub_people.specs.Laws.{OwnsNothing}
+use Rattle.doc_hub_media.specs.PeopleLaws.{OwnsNothing}
 use Rattle.doc_hub_replies.specs.Answers.{kept_from_guests}
 
 -- ---- who owns nothing

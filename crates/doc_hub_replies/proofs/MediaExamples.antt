@@ -36,7 +36,7 @@ use Rattle.doc_people.specs.declared.settings.Settings.{Settings}
 use Rattle.doc_hub_answers.specs.Replies.{Renders}
 use Rattle.doc_hub_answers.specs.declared.answer.Answer.{Answer}
 use Rattle.doc_hub_asking.specs.Asking.{Asking, Guest, Known}
-use Rattle.doc_hub_editing.specs.EditAnswers.{edit_response}
+use Rattle.doc_hub_media.specs.EditAnswers.{edit_response}
 use Rattle.doc_hub_media.specs.MediaAnswers.{media_response}
 use Rattle.doc_hub_replies.specs.Answers.{answer_of}
 

@@ -24,13 +24,13 @@ use Rattle.doc_hub_answers.specs.declared.answer.Answer.{Answer}
 use Rattle.doc_hub_answers.specs.declared.exchange.Exchange.{Exchange}
 use Rattle.doc_hub_asking.specs.Asking.{Asking, is_guest, owns, reader_asking, row_of}
 use Rattle.doc_hub_asking.specs.Asking as asked
-use Rattle.doc_hub_people.specs.PeopleAnswers.{offers_for, on_route, people_reply, unauthorized_reply}
-use Rattle.doc_hub_people.specs.VisitSteps.{people_sent}
+use Rattle.doc_hub_media.specs.PeopleAnswers.{offers_for, on_route, people_reply, unauthorized_reply}
+use Rattle.doc_hub_media.specs.VisitSteps.{people_sent}
 use Rattle.doc_hub_editing_refusals.specs.Asked.{EditRequest}
-use Rattle.doc_hub_editing.specs.EditAnswers.{by_entry, edit_response}
-use Rattle.doc_hub_editing.specs.EditRequests.{edit_request_of}
-use Rattle.doc_hub_editing.specs.EditResponses.{EditingResponse, editing_answer, reply_sent}
-use Rattle.doc_hub_editing.specs.EditSteps.{editing_sent}
+use Rattle.doc_hub_media.specs.EditAnswers.{by_entry, edit_response}
+use Rattle.doc_hub_media.specs.EditRequests.{edit_request_of}
+use Rattle.doc_hub_media.specs.EditResponses.{EditingResponse, editing_answer, reply_sent}
+use Rattle.doc_hub_media.specs.EditSteps.{editing_sent}
 use Rattle.doc_hub_replies.proofs.AnswerLaws.{answer_with, answer_without, is_edited, is_plain, is_shown, is_style, is_unedited}
 use Rattle.doc_hub_replies.proofs.EditLaws.{with_entry}
 use Rattle.doc_hub_replies.specs.Answers.{asks_for_style, browsed, dress_for, is_for_people, kept_from_guests}

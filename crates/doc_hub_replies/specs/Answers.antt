@@ -16,9 +16,9 @@ use Rattle.doc_store_readers.specs.Sites.{View}
 use Rattle.doc_hub_answers.specs.Replies.{Renders, Response, method_of, plain_answer, reads, refused, response_to}
 use Rattle.doc_hub_answers.specs.declared.answer.Answer.{Answer}
 use Rattle.doc_hub_asking.specs.Asking.{Asking, is_guest, row_of}
-use Rattle.doc_hub_people.specs.PeopleAnswers.{people_reply, realm_of}
-use Rattle.doc_hub_editing.specs.EditAnswers.{edit_response, is_preview}
-use Rattle.doc_hub_editing.specs.EditResponses.{EditingResponse, editing_answer}
+use Rattle.doc_hub_media.specs.PeopleAnswers.{people_reply, realm_of}
+use Rattle.doc_hub_media.specs.EditAnswers.{edit_response, is_preview}
+use Rattle.doc_hub_media.specs.EditResponses.{EditingResponse, editing_answer}
 use Rattle.doc_hub_media.specs.MediaAnswers.{MediaResponse, is_preview_kept, media_answer, media_response}
 
 -- an answer that makes no edit

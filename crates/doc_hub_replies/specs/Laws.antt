@@ -12,7 +12,7 @@ use Rattle.doc_hub_answers.specs.Replies.{Renders, plain_answer, response_to}
 use Rattle.doc_hub_answers.specs.declared.answer.Answer.{Answer}
 use Rattle.doc_hub_asking.specs.Asking.{Asking, is_guest, reader_asking, row_of}
 use Rattle.doc_hub_asking.specs.Asking as asked
-use Rattle.doc_hub_editing.specs.EditRequests.{edit_request_of}
+use Rattle.doc_hub_media.specs.EditRequests.{edit_request_of}
 use Rattle.doc_hub_media.specs.MediaAnswers.{media_response}
 use Rattle.doc_hub_replies.specs.Answers.{answer_by, answer_of, asks_for_style, dress_for, is_for_people, kept_from_guests}
 use Rattle.doc_hub_replies.specs.Answers.{style_answer, unedited}

@@ -3,7 +3,7 @@ use Rattle.std.proofs.Common.{◌≡◌, ◌≤◌, ℕ, List, Bool, sym, ap, su
 use Rattle.std.specs.Prelude.{Ok}
 use Rattle.doc_hub.specs.Worlds.{World, store_of, world_taking}
 use Rattle.doc_server_hosting.specs.Hostings.{IsRestoredFrom}
-use Rattle.doc_server_kept.specs.KeptTurns.{IsRestored}
+use Rattle.doc_server_network.specs.KeptTurns.{IsRestored}
 use Rattle.doc_server_restore.specs.Restores.{restored}
 use Rattle.std.specs.Prelude.{Option}
 

@@ -4,7 +4,7 @@ use Rattle.doc_hub.specs.Worlds.{IsApart, World, store_of, with_store, world_tak
 use Rattle.doc_hub_answers.specs.Replies.{Renders}
 use Rattle.doc_server_journal.specs.declared.journal.Journal.{Journal}
 use Rattle.doc_server_journal_records.specs.Readings.{ReadsAs}
-use Rattle.doc_server_kept.specs.KeptTurns.{IsOfCalls}
+use Rattle.doc_server_network.specs.KeptTurns.{IsOfCalls}
 use Rattle.doc_server_restore.specs.Restores.{restored}
 use Rattle.doc_server_network.specs.Crashes.{CrashesLeave}
 use Rattle.doc_server_network.specs.Saved.{IsAllSaved, IsReady, IsSettled}

@@ -11,7 +11,7 @@ use Rattle.doc_hub_events.specs.declared.refusal.ConnectError.TheVariants as con
 use Rattle.doc_hub.specs.Runs.{Happens}
 use Rattle.doc_hub.specs.Worlds.{World, connected, last_id}
 use Rattle.doc_server_journal.specs.declared.journal.Journal.{Journal}
-use Rattle.doc_server_kept.specs.KeptTurns.{IsRestored}
+use Rattle.doc_server_network.specs.KeptTurns.{IsRestored}
 use Rattle.doc_server_listen.specs.Edits.{Kept}
 use Rattle.doc_server_restore.specs.Restores.{restored, unstamped}
 use Rattle.doc_server_network.specs.Saved.{HasAll, IsAllSaved, IsSavedIn, IsSettled, StaysSaved, TakesByRoom}

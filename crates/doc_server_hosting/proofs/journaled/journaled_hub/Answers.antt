@@ -2,7 +2,7 @@ use Rattle.std.proofs.Common.{ap, subst, sym, ◌∙◌}
 use Rattle.std.specs.Prelude.{IfSome, is_some}
 use Rattle.doc_hub.specs.Worlds.{IsApart, store_of}
 use Rattle.doc_server_journal_records.specs.Readings.{ReadsAs}
-use Rattle.doc_server_kept.specs.KeptTurns.{IsOfCalls}
+use Rattle.doc_server_network.specs.KeptTurns.{IsOfCalls}
 use Rattle.doc_server_hosting.proofs.Joining.{quietly_taking}
 use Rattle.doc_server_hosting.proofs.Ready.{restored_too}
 use Rattle.doc_server_hosting.proofs.journaled.journaled_hub.Goals as goal

@@ -1,6 +1,6 @@
 use Rattle.std.proofs.Common.{ap, sym, ◌∙◌}
 use Rattle.doc_hub_asking.specs.Asking.{known_by, reader_asking}
-use Rattle.doc_hub_people.proofs.AskingLaws.{bearers_alone_are_known}
+use Rattle.doc_hub_media.proofs.AskingLaws.{bearers_alone_are_known}
 use Rattle.doc_hub_replies.proofs.serving.Serving.asking.Goals as goal
 
 pub returns-in-None : goal.returns-in-None

@@ -8,7 +8,7 @@ use Rattle.doc_hub_answers.specs.Replies.{method_of, reads}
 use Rattle.doc_hub_asking.specs.Asking.{Asking, reader_asking, row_of}
 use Rattle.doc_hub_asking.specs.AskingSteps.{asking_shown}
 use Rattle.doc_hub_editing_refusals.specs.AskedSteps.{edit_request_shown}
-use Rattle.doc_hub_editing.specs.EditAnswers.{is_preview, shows_preview}
+use Rattle.doc_hub_media.specs.EditAnswers.{is_preview, shows_preview}
 use Rattle.doc_hub_replies.proofs.EditLaws.{nothing_is_asked, nothing_shows_none, who_reads_is_shown_none, with_entry_shows}
 use Rattle.doc_hub_replies.proofs.EditLaws.{without_entry, without_entry_shows_none}
 use Rattle.doc_hub_replies.proofs.ServingSteps.{counted_alone, counted_as, edited_so, style_so, unedited_so}

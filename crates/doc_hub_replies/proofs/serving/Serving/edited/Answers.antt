@@ -7,8 +7,8 @@ use Rattle.doc_hub_answers.specs.Edits.{puts_taken}
 use Rattle.doc_hub_asking.specs.Asking.{is_guest}
 use Rattle.doc_hub_asking.specs.AskingSteps.{asking_shown}
 use Rattle.doc_hub_editing_refusals.specs.AskedSteps.{edit_request_shown}
-use Rattle.doc_hub_editing.specs.EditAnswers.{by_entry, shows_preview}
-use Rattle.doc_hub_editing.specs.EditResponses.{editing_answer}
+use Rattle.doc_hub_media.specs.EditAnswers.{by_entry, shows_preview}
+use Rattle.doc_hub_media.specs.EditResponses.{editing_answer}
 use Rattle.doc_hub_replies.proofs.ServingSteps.{counted_as, editing_so}
 use Rattle.doc_hub_replies.proofs.serving.Serving.edited.Goals as goal
 use Rattle.doc_hub_replies.specs.Answers.{dress_for, is_for_people}

@@ -4,7 +4,7 @@ use Rattle.doc_store_readers.specs.Sites.{view_of}
 use Rattle.doc_hub_answers.specs.Edits.{puts_taken}
 use Rattle.doc_hub_asking.specs.Asking.{row_of}
 use Rattle.doc_hub_asking.specs.AskingSteps.{asking_shown}
-use Rattle.doc_hub_people.specs.PeopleAnswers.{people_reply}
+use Rattle.doc_hub_media.specs.PeopleAnswers.{people_reply}
 use Rattle.doc_hub_replies.proofs.ServingSteps.{counted_alone, people_so, plain_so}
 use Rattle.doc_hub_replies.proofs.serving.Serving.unedited.Goals as goal
 use Rattle.doc_hub_replies.specs.Answers.{people_answer}
