@@ -18,13 +18,13 @@ NOWHERE = "nowhere.toml"
 UNDERSTOOD = f"cannot read {NOWHERE}"
 # lines that are understood, each with a configuration or a file that isn't there
 TAKEN = (["examples", NOWHERE], ["check", NOWHERE, "tok"], ["check", NOWHERE, ""], ["check", NOWHERE, "--log"], ["replay", NOWHERE],
-         ["folders", NOWHERE],
+         ["folders", NOWHERE], ["lint", NOWHERE], ["lint", NOWHERE, "--journal", "j"], ["lint", NOWHERE, "--journal", "--journal"],
          ["compact", NOWHERE, "--journal", "j"], ["compact", NOWHERE, "--journal", "--log"], ["compact", NOWHERE, "--journal", ""],
          ["serve", NOWHERE, f"{HOST}:0", "0", "0"], ["serve", NOWHERE, "[::1]:65535", "4294967295", "007"])
 # lines that no command takes, and of which nothing more is told
 REFUSED = ([], [""], ["Demo"], ["dem"], ["demo", ""], ["demo", "x"], ["render", "x"], ["examples"], ["examples", "a", "b"], ["check"],
            ["check", NOWHERE], ["check", NOWHERE, "tok", "x"], ["replay"], ["replay", NOWHERE, "x"], ["folders"], ["folders", NOWHERE, "x"],
-           ["listen"], ["listen", NOWHERE], ["compact"], ["compact", NOWHERE], ["serve"], ["serve", NOWHERE],
+           ["listen"], ["listen", NOWHERE], ["lint"], ["Lint", NOWHERE], ["compact"], ["compact", NOWHERE], ["serve"], ["serve", NOWHERE],
            ["serve", NOWHERE, f"{HOST}:0"], ["serve", NOWHERE, f"{HOST}:0", "1"], ["serve", NOWHERE, f"{HOST}:0", "1", "1", "--log"],
            ["--version", "x"], ["--Version"], ["-version"], ["--help", "listen"], ["-h"], ["help"], ["version"], ["--journal", "j"],
            ["--log"])
@@ -36,8 +36,8 @@ NO_ADDRESSES = ("", HOST, ":80", f"{HOST}:", f"{HOST}:65536", f"{HOST}:+1", "256
                 "Localhost:80", "localhost.:80", "localhost4:80", "local:80", "xlocalhost:80", "--log", "--journal")
 # the words behind CONFIG and ADDR that `listen` takes, and those behind CONFIG that the others do; FILE is any word
 GOOD = {"listen": ([], ["--log"], ["--journal", None], ["--journal", None, "--log"], ["--log", "--journal", None]),
-        "compact": (["--journal", None],)}
-FRONTS = {"listen": [NOWHERE, f"{HOST}:0"], "compact": [NOWHERE]}
+        "lint": ([], ["--journal", None]), "compact": (["--journal", None],)}
+FRONTS = {"listen": [NOWHERE, f"{HOST}:0"], "lint": [NOWHERE], "compact": [NOWHERE]}
 
 
 # ---- one call
@@ -177,7 +177,7 @@ def help_told():
     lines = told.decode("ascii").splitlines()
     scene.check("--help", (status, said, told[-1:]) == (0, b"", b"\n") and max(map(len, lines)) <= 100, f"{status} {told} {said}")
     with open(TOP + "/docs/RUNNING.md") as page:
-        forms = re.findall(r"(?m)^\| `((?:listen|folders|compact|check|replay|serve)\b[^`]*)` \|", page.read())
+        forms = re.findall(r"(?m)^\| `((?:listen|lint|folders|compact|check|replay|serve)\b[^`]*)` \|", page.read())
     for form in [*forms, "demo", "render", "examples FILE", "--version", "--help"]:
         scene.check(f"the line of {form}", sum(it == form or it.startswith(form + "  ") for it in lines) == 1)
 

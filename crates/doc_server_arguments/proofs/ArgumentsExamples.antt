@@ -8,7 +8,7 @@ use Rattle.percent_encoding.specs.AsciiSet.{should_percent_encode}
 use Rattle.percent_encoding.specs.Percent.{percent_encode, percent_encode_byte}
 use Rattle.doc_server_arguments.specs.declared.help.TheConstants.{HELP}
 use Rattle.doc_server_arguments.specs.Addresses.{address_of, listen_address_of, v4_of, v6_of}
-use Rattle.doc_server_arguments.specs.Commands.{Asked, command_in, Demo, Render, Examples, Check, Replay, Serve, Listen, Compact, Folders, Version, Help}
+use Rattle.doc_server_arguments.specs.Commands.{Asked, command_in, Demo, Render, Examples, Check, Replay, Serve, Listen, Compact, Folders, Lint, Version, Help}
 use Rattle.doc_server_arguments.specs.ShownWords.{shown_word}
 use Rattle.doc_server_arguments.specs.Usage.{NoCommand, NoAddress, UnknownOption, StandsTwice, NeedsFile, usage_text}
 use Rattle.doc_server_arguments.specs.Versions.{version_lines}
@@ -202,6 +202,19 @@ compact_with_log = refl
 compact_and_more : command_in (codes "compact" ∷ codes "site.toml" ∷ codes "--journal" ∷ codes "j" ∷ codes "x" ∷ [])
     ≡ Err (UnknownOption (codes "x"))
 compact_and_more = refl
+
+lint : command_in (codes "lint" ∷ codes "site.toml" ∷ []) ≡ Ok (Lint (codes "site.toml") None)
+lint = refl
+
+lint_with_journal : command_in (codes "lint" ∷ codes "site.toml" ∷ codes "--journal" ∷ codes "j" ∷ [])
+    ≡ Ok (Lint (codes "site.toml") (Some (codes "j")))
+lint_with_journal = refl
+
+lint_of_none : command_in (codes "lint" ∷ []) ≡ Err NoCommand
+lint_of_none = refl
+
+lint_without_file : command_in (codes "lint" ∷ codes "site.toml" ∷ codes "--journal" ∷ []) ≡ Err (NeedsFile (codes "--journal"))
+lint_without_file = refl
 
 -- ---- what is told
 

@@ -3,7 +3,7 @@ use Rattle.std.specs.Prelude.{option_copied, Result, Ok, Err}
 use Rattle.doc_server_arguments.specs.declared.command.Command.{Command}
 use Rattle.doc_server_arguments.specs.declared.command.Command.TheVariants as commands
 use Rattle.doc_server_arguments.specs.declared.usage_fault.UsageFault.{UsageFault}
-use Rattle.doc_server_arguments.specs.Commands.{Asked, Demo, Render, Examples, Check, Replay, Serve, Listen, Compact, Folders, Version, Help}
+use Rattle.doc_server_arguments.specs.Commands.{Asked, Demo, Render, Examples, Check, Replay, Serve, Listen, Compact, Folders, Lint, Version, Help}
 use Rattle.doc_server_arguments.specs.Usage.{Wrong, fault_shown}
 
 abbrev pub command_shown : Command → Asked
@@ -17,6 +17,7 @@ command_shown (commands.Listen listen) =
     Listen listen.config.now listen.written.now listen.address (option_copied listen.journal) listen.log
 command_shown (commands.Compact compact) = Compact compact.config.now compact.journal.now
 command_shown (commands.Folders config) = Folders config.now
+command_shown (commands.Lint lint) = Lint lint.config.now (option_copied lint.journal)
 command_shown commands.Version = Version
 command_shown commands.Help = Help
 

@@ -18,6 +18,7 @@ pub data Asked : Type 0 where
   Listen : (config written : List ℕ) (address : SocketAddr) (journal : Option (List ℕ)) (log : Bool) → Asked
   Compact : (config journal : List ℕ) → Asked
   Folders : (config : List ℕ) → Asked
+  Lint : (config : List ℕ) (journal : Option (List ℕ)) → Asked
   Version : Asked
   Help : Asked
 
@@ -88,6 +89,16 @@ abbrev pub folders_in : List (List ℕ) → Result Asked Wrong
 folders_in (config ∷ []) = Ok (Folders config)
 folders_in words = Err NoCommand
 
+-- a command `lint` of which the options are read
+abbrev pub lint_saying : List ℕ → Result (Option (List ℕ)) Wrong → Result Asked Wrong
+lint_saying config (Ok journal) = Ok (Lint config journal)
+lint_saying config (Err wrong) = Err wrong
+
+-- `lint CONFIG [--journal FILE]`
+abbrev pub lint_in : List (List ℕ) → Result Asked Wrong
+lint_in (config ∷ options) = lint_saying config (journal_said (options_in known.Journal options))
+lint_in words = Err NoCommand
+
 -- what the words behind the name of a command ask for
 abbrev pub asked_by : List ℕ → List (List ℕ) → Result Asked Wrong
 asked_by name words =
@@ -100,8 +111,9 @@ asked_by name words =
     else (if bytes_eq name (codes "listen") then listen_in words
     else (if bytes_eq name (codes "compact") then compact_in words
     else (if bytes_eq name (codes "folders") then folders_in words
+    else (if bytes_eq name (codes "lint") then lint_in words
     else (if bytes_eq name (codes "--version") then alone Version words
-    else (if bytes_eq name (codes "--help") then alone Help words else Err NoCommand))))))))))
+    else (if bytes_eq name (codes "--help") then alone Help words else Err NoCommand)))))))))))
 
 -- what a line asks for, or what is wrong with it: the first fault by the order of its words
 abbrev pub command_in : List (List ℕ) → Result Asked Wrong

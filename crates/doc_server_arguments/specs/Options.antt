@@ -1,4 +1,4 @@
--- The options behind the other words of `listen` and `compact`.
+-- The options behind the other words of `listen`, `compact` and `lint`.
 use Rattle.std.specs.Prelude.{ℕ, List, [], ◌∷◌, ◌++◌, Bool, not, ◌&&◌, bytes_eq, codes, Option, Some, None, Result, Ok, Err, find, is_none}
 use Rattle.std.specs.Prelude.{option_and_then, if◌then◌else◌}
 use Rattle.std.specs.List.{list_any}

@@ -16,6 +16,7 @@ pub enum Command<'a> {
     Compact(Compact<'a>),
     /// The folders of the configuration of this name.
     Folders(&'a str),
+    Lint(Lint<'a>),
     /// What the program is, and which journals it reads.
     Version,
     /// The commands, a line each.
@@ -72,4 +73,13 @@ pub struct Compact<'a> {
     pub config: &'a str,
     /// The file of the journal.
     pub journal: &'a str,
+}
+
+/// What is wrong with a configuration, and with its journal.
+#[derive(Drop)]
+pub struct Lint<'a> {
+    /// The file of the configuration.
+    pub config: &'a str,
+    /// The file of the journal, where there is one.
+    pub journal: Option<&'a str>,
 }

@@ -2,12 +2,12 @@
 
 ghost use Rattle.std.specs.Prelude.{◌≡◌};
 ghost use Rattle.doc_server_arguments.specs.Commands.{alone, check_in, command_in, examples_in, replay_in};
-ghost use Rattle.doc_server_arguments.specs.Commands.{compact_in, folders_in, listen_in, serve_in};
+ghost use Rattle.doc_server_arguments.specs.Commands.{compact_in, folders_in, lint_in, listen_in, serve_in};
 ghost use Rattle.doc_server_arguments.specs.CommandSteps.{command_shown, shown_command};
 ghost use Rattle.doc_server_arguments.specs.Texts.{texts};
 
 use crate::address::{address_of, listen_address_of};
-use crate::command::{Check, Command, Compact, Listen, Replay, Serve};
+use crate::command::{Check, Command, Compact, Lint, Listen, Replay, Serve};
 use crate::number::count_of;
 use crate::options::{Known, options_of};
 use crate::usage_fault::UsageFault;
@@ -30,6 +30,7 @@ pub fn command_of(words: &[String]) -> Result<Command<'_>, UsageFault<'_>>
         "listen" => listen_of(rest),
         "compact" => compact_of(rest),
         "folders" => folders_of(rest),
+        "lint" => lint_of(rest),
         "--version" => alone(Command::Version, rest),
         "--help" => alone(Command::Help, rest),
         _ => Err(UsageFault::Command),
@@ -149,4 +150,18 @@ fn folders_of(words: &[String]) -> Result<Command<'_>, UsageFault<'_>>
         return Err(UsageFault::Command);
     };
     Ok(Command::Folders(config.as_str()))
+}
+
+/// `lint CONFIG [--journal FILE]`
+fn lint_of(words: &[String]) -> Result<Command<'_>, UsageFault<'_>>
+    ensures { shown_command result ≡ lint_in (texts words.now) }
+{
+    let Some((config, options)) = words.split_first() else {
+        return Err(UsageFault::Command);
+    };
+    let options = options_of(Known::Journal, options)?;
+    Ok(Command::Lint(Lint {
+        config: config.as_str(),
+        journal: options.journal,
+    }))
 }

@@ -4,6 +4,7 @@
 pub const HELP: &str = "docs_server COMMAND, one of
 
 listen CONFIG ADDR [--journal FILE] [--log]  serves the site to all who come
+lint CONFIG [--journal FILE]                 tells what is wrong with the configuration, a line each
 folders CONFIG                               tells which files of CONFIG's folders are bad
 compact CONFIG --journal FILE                writes the journal anew, of the site its edits lead to
 check CONFIG TOKEN                           prints the broken links that the token's reader sees

@@ -51,7 +51,7 @@ pub(crate) fn shown_name(heap: Heap, name: &str) -> Result<Text, Memory>
 
 /// Writes a name as it is told.
 #[tactic(auto, unfolding(crate::specs::BadFiles::shown_name))]
-fn push_shown(out: &mut String, name: &str) -> Result<(), Memory>
+pub fn push_shown(out: &mut String, name: &str) -> Result<(), Memory>
     ensures { OnOk result (string_bytes out.new ≡ string_bytes out.old ++ shown_name name.now) }
 {
     'characters: for c in name.chars() {

@@ -90,7 +90,7 @@ fn number_at(table: &Table, key: &str, most: u32, missing: u32) -> Option<u32>
 }
 
 /// A number from 1 to a bound.
-fn within(most: u32, number: i64) -> Option<u32>
+pub fn within(most: u32, number: i64) -> Option<u32>
     ensures { result ≡ within most number }
 {
     if number < 1 || number > most as i64 {

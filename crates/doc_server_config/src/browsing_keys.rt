@@ -109,7 +109,7 @@ fn text_in<'a>(table: &'a Table, key: &str, missing: &'a str) -> Option<&'a str>
 }
 
 /// The groups that a value names.
-fn groups_of(heap: Heap, value: &Value) -> Result<Option<Groups>, Memory>
+pub fn groups_of(heap: Heap, value: &Value) -> Result<Option<Groups>, Memory>
     ensures { IfOk result (λ groups. groups ≡ groups_at (Some (view value.now))) }
 {
     let Some(array) = value.as_array() else {
@@ -126,7 +126,7 @@ fn groups_of(heap: Heap, value: &Value) -> Result<Option<Groups>, Memory>
 }
 
 /// The strings of an array that holds nothing else.
-pub(crate) fn strings_in(heap: Heap, array: &Array) -> Result<Option<Vec<&str>>, Memory>
+pub fn strings_in(heap: Heap, array: &Array) -> Result<Option<Vec<&str>>, Memory>
     ensures { IfOk result
         (λ texts. option_map (λ found. texts_of found.items) texts
         ≡ strings_in (array_view array.now)) }

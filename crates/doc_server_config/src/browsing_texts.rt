@@ -19,7 +19,7 @@ const SUBTAG_LIMIT: usize = 8;
 
 /// Whether a text can be the title of a site: 1 to 100 bytes, without control characters, and neither first nor last a space.
 #[tactic(auto, unfolding(doc_people::specs::Settings::is_title))]
-pub(crate) fn is_title(text: &str) -> bool
+pub fn is_title(text: &str) -> bool
     ensures { result ≡ is_title text.now }
 {
     has_length(text, TITLE_LIMIT)
@@ -31,7 +31,7 @@ pub(crate) fn is_title(text: &str) -> bool
 /// Whether a text has the form of a language: 1 to 35 bytes, parts joined by `-`, each of 1 to 8 ASCII letters or digits, the first of
 /// letters alone and of 2 at least (BCP 47, section 2.1).
 #[tactic(auto, unfolding(doc_people::specs::Settings::is_language))]
-pub(crate) fn is_language(text: &str) -> bool
+pub fn is_language(text: &str) -> bool
     ensures { result ≡ is_language text.now }
 {
     has_length(text, LANGUAGE_LIMIT) && has_good_parts(text) && begins_with_letters(text)

@@ -43,7 +43,8 @@ fn names_in(heap: Heap, array: &Array) -> Result<Option<List<Text>>, Memory>
     Ok(Some(copies_of(heap, &names)?))
 }
 
-fn are_folder_names(names: &[&str]) -> bool
+/// Whether each text is the name of a folder in another.
+pub fn are_folder_names(names: &[&str]) -> bool
     ensures { result ≡ are_folder_names (texts_of names.now) }
 {
     for name in names {

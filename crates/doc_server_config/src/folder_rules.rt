@@ -49,7 +49,8 @@ fn is_nfc_in(table: &Value) -> Option<bool>
     }
 }
 
-fn nfc_of(text: &str) -> Option<bool>
+/// Whether names are normalised, by the name of a form.
+pub fn nfc_of(text: &str) -> Option<bool>
     ensures { result ≡ nfc_of text.now }
 {
     if text == "nfc" {
@@ -78,7 +79,8 @@ fn skips_in(table: &Value) -> Option<bool>
     }
 }
 
-fn skips_of(text: &str) -> Option<bool>
+/// Whether bad files are passed over, by the name of it.
+pub fn skips_of(text: &str) -> Option<bool>
     ensures { result ≡ skips_of text.now }
 {
     if text == "skip" {

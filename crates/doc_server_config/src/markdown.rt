@@ -113,7 +113,8 @@ fn matter_in(table: &Table) -> Option<FrontMatter>
     }
 }
 
-fn matter_of(text: &str) -> Option<FrontMatter>
+/// What becomes of front matter, by the name of it.
+pub fn matter_of(text: &str) -> Option<FrontMatter>
     ensures { result ≡ matter_of text.now }
 {
     if text == "skip" {

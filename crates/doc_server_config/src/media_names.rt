@@ -38,7 +38,7 @@ pub(crate) fn media_in(heap: Heap, table: &Value) -> Result<Option<Option<List<T
 }
 
 /// The extensions of an array that holds nothing else, and one at least.
-fn listed_media(heap: Heap, value: &Value) -> Result<Option<Option<List<Text>>>, Memory>
+pub fn listed_media(heap: Heap, value: &Value) -> Result<Option<Option<List<Text>>>, Memory>
     ensures { IfOk result (λ media.
         media ≡ listed_media (option_and_then strings_in (as_array (view value.now)))) }
 {

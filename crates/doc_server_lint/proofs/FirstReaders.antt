@@ -1,0 +1,188 @@
+-- The reader for which a document is refused is the first of which a fault is told.
+use Rattle.std.proofs.Common.{◌≡◌, ◌+◌, ℕ, List, [], ◌∷◌, ◌++◌, Bool, true, false, not, ◌&&◌, is_some, is_ok, codes, refl, ap, sym, ◌∙◌}
+use Rattle.std.proofs.Common.{subst}
+use Rattle.std.specs.Prelude.{Option, Some, None, Result, Ok, Err, if◌then◌else◌}
+use Rattle.std.specs.FinMap as map
+use Rattle.std.specs.Cmp.Lexicographic.{slice_cmp}
+use Rattle.std.specs.Option.{option_or}
+use Rattle.std.specs.Ordering.{nat_cmp}
+use Rattle.toml.specs.Data.{Data, Items, no_items, item, Members, get, get_member}
+use Rattle.doc_page_parts.proofs.Bools.{and_first, and_second, clash}
+use Rattle.doc_page_parts.proofs.Options.{is_some_false}
+use Rattle.doc_store_readers.specs.declared.entries.Entry.{Entry}
+use Rattle.doc_store_readers.specs.declared.reader.Reader.{Reader}
+use Rattle.doc_store_readers.specs.declared.readers.ReadersError.{ReadersError}
+use Rattle.doc_store_readers.specs.declared.readers.ReadersError.TheVariants.{BadRow, Twice}
+use Rattle.doc_store_readers.specs.Readers.{ReaderTable, entries_from, entries_of, entry_of, groups_at, owner_at, reader_tables}
+use Rattle.doc_store_readers.specs.Readers.{readers_from, readers_of_document}
+use Rattle.doc_store_readers.specs.Readers.{readers_of_entries, table_of, tables_at, token_in}
+use Rattle.doc_server_config.specs.declared.config.ConfigError.{ConfigError}
+use Rattle.doc_server_config.specs.declared.config.ConfigError.TheVariants.{BadPage, BadReaders}
+use Rattle.doc_server_config.specs.declared.page_row.PageRow.{PageRow}
+use Rattle.doc_server_config.specs.Configurations.{config_of_document, with_pages, with_readers, with_settings}
+use Rattle.doc_server_config.specs.PageRows.{page_of, pages_from}
+use Rattle.doc_server_config.specs.Settings.{settings_in}
+use Rattle.doc_server_lint.specs.declared.finding.Finding.{Finding}
+use Rattle.doc_server_lint.specs.declared.place.Place.TheVariants as place
+use Rattle.doc_server_lint.specs.Faults.{Rows, faults_of_folders, faults_of_pages, faults_of_reader, faults_of_readers, row_of, rows_at}
+use Rattle.doc_server_lint.specs.Faults.{rows_of, with_row}
+use Rattle.doc_server_lint.specs.Findings.{findings_of}
+use Rattle.doc_server_lint.specs.Laws.{is_of_reader}
+use Rattle.doc_server_lint.proofs.ClearReaders.{AreTokens, entries_in, entries_are, entries_taken, is_reader, kept, one_more, token_is}
+use Rattle.doc_server_lint.proofs.ClearRows.{each, reader_clear}
+use Rattle.doc_server_lint.proofs.FirstLaw.{first, first_of_rows}
+use Rattle.doc_server_lint.proofs.FirstSteps.{first_append, first_here, none_of_clear, reader_at}
+
+-- what is told of the readers that are left, where nothing or something is told of this one
+module _ (tokens : Rows) (n : ℕ) (row : Data) (rest : Items) (m : ℕ) where
+  abbrev more : List Finding
+  more = faults_of_readers (with_row tokens (token_in row) n) (n + 1) rest
+
+  here : (is_some (entry_of row) && not (is_some (row_of tokens (token_in row)))) ≡ false → n ≡ m
+      → first is_of_reader (faults_of_readers tokens n (item row rest)) ≡ Some (place.Reader m)
+  here bad same =
+      first_append (λ finding. is_of_reader finding.place) (faults_of_reader tokens n row) more
+      ∙ ap (λ one. option_or one (first is_of_reader more))
+      (first_here is_of_reader (place.Reader n) (faults_of_reader tokens n row) refl (reader_at tokens n row)
+      (reader_clear tokens n row ∙ bad))
+      ∙ ap (λ k. Some (place.Reader k)) same
+
+  behind : (is_some (entry_of row) && not (is_some (row_of tokens (token_in row)))) ≡ true → first is_of_reader more ≡ Some (place.Reader m)
+      → first is_of_reader (faults_of_readers tokens n (item row rest)) ≡ Some (place.Reader m)
+  behind good found =
+      first_append (λ finding. is_of_reader finding.place) (faults_of_reader tokens n row) more
+      ∙ ap (λ one. option_or one (first is_of_reader more))
+      (none_of_clear (λ finding. is_of_reader finding.place) (faults_of_reader tokens n row) (reader_clear tokens n row ∙ good))
+      ∙ found
+
+-- whether a row is taken beside the tokens before it, by its entry
+fresh_row : (before : List (List ℕ × Reader)) (tokens : Rows) (row : Data) (entry : Entry) (b : Bool) → AreTokens before tokens
+    → entry_of row ≡ Some entry → is_some (map.find (slice_cmp nat_cmp) entry.token before) ≡ b
+    → (is_some (entry_of row) && not (is_some (row_of tokens (token_in row)))) ≡ not b
+fresh_row before tokens row entry b are is found =
+    ap (λ one. is_some one && not (is_some (row_of tokens (token_in row)))) is
+    ∙ ap (λ token. not (is_some (row_of tokens token)))
+    (token_is (token_in row) (owner_at (get (codes "owner") row)) (groups_at (get (codes "groups") row)) entry is)
+    ∙ ap not (are entry.token ∙ found)
+
+same_row : (m n : ℕ) → ◌≡◌ {A = Result (List (List ℕ × Reader)) ReadersError} (Err (Twice m)) (Err (Twice n)) → m ≡ n
+same_row m n is = cc
+
+-- the readers behind one of an entry
+abbrev TwiceIsToldBehind : List (List ℕ × Reader) → ℕ → Rows → Items → ℕ → Type 0
+TwiceIsToldBehind before n tokens rest m =
+    (entry : Entry) → AreTokens (before ++ (entry.token, entry.reader) ∷ []) (map.insert tokens entry.token n)
+    → readers_from (before ++ (entry.token, entry.reader) ∷ []) (n + 1) (entries_in rest) ≡ Err (Twice m)
+    → first is_of_reader (faults_of_readers (map.insert tokens entry.token n) (n + 1) rest) ≡ Some (place.Reader m)
+
+twice_told : (before : List (List ℕ × Reader)) (n : ℕ) (tokens : Rows) (rows : Items) (m : ℕ) → AreTokens before tokens
+    → each is_reader rows ≡ true → readers_from before n (entries_in rows) ≡ Err (Twice m)
+    → first is_of_reader (faults_of_readers tokens n rows) ≡ Some (place.Reader m)
+twice_told before n tokens no_items m are all is = cc
+twice_told before n tokens (item row rest) m are all is =
+    by (λ entry are is. twice_told (before ++ (entry.token, entry.reader) ∷ []) (n + 1) (map.insert tokens entry.token n) rest m are
+    (and_second _ _ all) is) (entry_of row) refl is
+  where
+    token_of : (entry : Entry) → entry_of row ≡ Some entry → token_in row ≡ Some entry.token
+    token_of entry eq = token_is (token_in row) (owner_at (get (codes "owner") row)) (groups_at (get (codes "groups") row)) entry eq
+
+    by_token : TwiceIsToldBehind before n tokens rest m → (entry : Entry) (b : Bool) → entry_of row ≡ Some entry
+        → is_some (map.find (slice_cmp nat_cmp) entry.token before) ≡ b
+        → (if b then Err (Twice n) else readers_from (before ++ (entry.token, entry.reader) ∷ []) (n + 1) (entries_in rest)) ≡ Err (Twice m)
+        → first is_of_reader (faults_of_readers tokens n (item row rest)) ≡ Some (place.Reader m)
+    by_token told entry true eq found is =
+        here tokens n row rest m (fresh_row before tokens row entry true are eq found) (same_row n m is)
+    by_token told entry false eq found is =
+        behind tokens n row rest m (fresh_row before tokens row entry false are eq found)
+        (subst (λ token. first is_of_reader (faults_of_readers (with_row tokens token n) (n + 1) rest) ≡ Some (place.Reader m))
+        (sym (token_of entry eq))
+        (told entry (one_more before tokens entry.token entry.reader n (is_some_false _ found) are) is))
+
+    by : TwiceIsToldBehind before n tokens rest m → (entry : Option Entry) → entry_of row ≡ entry
+        → readers_from before n (kept entry (entries_in rest)) ≡ Err (Twice m)
+        → first is_of_reader (faults_of_readers tokens n (item row rest)) ≡ Some (place.Reader m)
+    by told None eq is = absurd (clash (is_some (entry_of row)) (and_first _ _ all) (ap is_some eq))
+    by told (Some entry) eq is = by_token told entry (is_some (map.find (slice_cmp nat_cmp) entry.token before)) eq refl is
+
+-- ---- the document
+
+-- rows alone are never refused for a token that comes again
+never : (found : List Entry) (n : ℕ) (rows : Items) (m : ℕ) → entries_from found n rows ≡ Err (Twice m) → ⊥
+never found n no_items m is = cc
+never found n (item row rest) m is = by (λ entry. never (found ++ entry ∷ []) (n + 1) rest m) (entry_of row) is
+  where
+    by : ((entry : Entry) → entries_from (found ++ entry ∷ []) (n + 1) rest ≡ Err (Twice m) → ⊥) → (entry : Option Entry)
+        → elim entry as (λ _. Result (List Entry) ReadersError) [
+          | None ↦ Err (BadRow n)
+          | Some entry ↦ entries_from (found ++ entry ∷ []) (n + 1) rest
+        ] ≡ Err (Twice m) → ⊥
+    by behind None is = cc
+    by behind (Some entry) is = behind entry is
+
+-- what readers are refused for, by their rows
+rows_twice : (rows : Items) (m : ℕ) → readers_of_entries (entries_from [] 1 rows) ≡ Err (Twice m)
+    → first is_of_reader (faults_of_readers map.empty 1 rows) ≡ Some (place.Reader m)
+rows_twice rows m is = by (each is_reader rows) refl
+  where
+    refused : (entries : Result (List Entry) ReadersError) → is_ok entries ≡ false → readers_of_entries entries ≡ Err (Twice m)
+        → entries ≡ Err (Twice m)
+    refused (Ok entries) bad is = cc
+    refused (Err e) bad is = cc
+
+    by : (b : Bool) → each is_reader rows ≡ b → first is_of_reader (faults_of_readers map.empty 1 rows) ≡ Some (place.Reader m)
+    by true all =
+        twice_told [] 1 map.empty rows m (λ token. ap is_some (map.get-empty (slice_cmp nat_cmp) token)) all
+        (sym (ap readers_of_entries (entries_are [] 1 rows all)) ∙ is)
+    by false bad = absurd (never [] 1 rows m (refused (entries_from [] 1 rows) (entries_taken [] 1 rows ∙ bad) is))
+
+pages_never : (found : List PageRow) (k : ℕ) (rows : Items) (e : ReadersError) → pages_from found k rows ≡ Err (BadReaders e) → ⊥
+pages_never found k no_items e is = cc
+pages_never found k (item row rest) e is = by (λ page. pages_never (found ++ page ∷ []) (k + 1) rest e) (page_of row) is
+  where
+    by : ((page : PageRow) → pages_from (found ++ page ∷ []) (k + 1) rest ≡ Err (BadReaders e) → ⊥) → (page : Option PageRow)
+        → elim page as (λ _. Result (List PageRow) ConfigError) [
+          | None ↦ Err (BadPage k)
+          | Some page ↦ pages_from (found ++ page ∷ []) (k + 1) rest
+        ] ≡ Err (BadReaders e) → ⊥
+    by behind None is = cc
+    by behind (Some page) is = behind page is
+
+-- settings and pages aren't refused for readers
+settings_never : (readers : ReaderTable) (settings : _) (tables : Option Items) (e : ReadersError)
+    → with_settings readers settings tables ≡ Err (BadReaders e) → ⊥
+settings_never readers None tables e is = cc
+settings_never readers (Some settings) None e is = cc
+settings_never readers (Some settings) (Some rows) e is = by (pages_from [] 1 rows) (pages_never [] 1 rows e) is
+  where
+    by : (found : Result (List PageRow) ConfigError) → (found ≡ Err (BadReaders e) → ⊥)
+        → with_pages settings readers found ≡ Err (BadReaders e) → ⊥
+    by (Ok found) never is = cc
+    by (Err other) never is = never cc
+
+pub of_readers : (readers : Result ReaderTable ReadersError) (document : Members) (e : ReadersError)
+    → with_readers document readers ≡ Err (BadReaders e) → readers ≡ Err e
+of_readers (Err other) document e is = cc
+of_readers (Ok readers) document e is =
+    absurd (settings_never readers (settings_in document) (tables_at (get_member (codes "page") document)) e is)
+
+pub of_table : (readers : Result (List (List ℕ × Reader)) ReadersError) (e : ReadersError) → table_of readers ≡ Err e → readers ≡ Err e
+of_table (Ok readers) e is = cc
+of_table (Err other) e is = cc
+
+pub twice_is_told : (document : Members) (n : ℕ) → config_of_document document ≡ Err (BadReaders (Twice n))
+    → first is_of_reader (findings_of document) ≡ Some (place.Reader n)
+twice_is_told document n is =
+    first_of_rows is_of_reader document refl refl refl refl (place.Reader n)
+    (first_append (λ finding. is_of_reader finding.place)
+    (faults_of_readers map.empty 1 (rows_at (codes "reader") document) ++ faults_of_pages 1 (rows_at (codes "page") document))
+    (faults_of_folders 1 (rows_at (codes "folder") document))
+    ∙ ap (λ one. option_or one (first is_of_reader (faults_of_folders 1 (rows_at (codes "folder") document))))
+    (first_append (λ finding. is_of_reader finding.place) (faults_of_readers map.empty 1 (rows_at (codes "reader") document))
+    (faults_of_pages 1 (rows_at (codes "page") document))
+    ∙ ap (λ one. option_or one (first is_of_reader (faults_of_pages 1 (rows_at (codes "page") document))))
+    (by_tables (tables_at (get_member (codes "reader") document)) (of_readers (readers_of_document document) document (Twice n) is))))
+  where
+    by_tables : (tables : Option Items) → table_of (readers_of_entries (entries_of (reader_tables tables))) ≡ Err (Twice n)
+        → first is_of_reader (faults_of_readers map.empty 1 (rows_of tables)) ≡ Some (place.Reader n)
+    by_tables None is = cc
+    by_tables (Some rows) is = rows_twice rows n (of_table (readers_of_entries (entries_from [] 1 rows)) (Twice n) is)

@@ -1,0 +1,151 @@
+-- The first finding of some, for which a document is refused.
+use Rattle.std.proofs.Common.{◌≡◌, ◌+◌, ℕ, List, [], ◌∷◌, ◌++◌, Bool, true, false, not, ◌&&◌, cond, codes, refl, ap, ◌∙◌}
+use Rattle.std.specs.Prelude.{Option, Some, None, option_map, if◌then◌else◌}
+use Rattle.std.specs.List.{find, flat_map}
+use Rattle.std.specs.Option.{option_or}
+use Rattle.toml.specs.Data.{Data, Items, no_items, item, Members, get, as_table}
+use Rattle.doc_store_readers.specs.Readers.{token_in}
+use Rattle.doc_server_config.specs.Keys.{is_one_of, keys_in}
+use Rattle.doc_server_lint.specs.declared.finding.Finding.{Finding}
+use Rattle.doc_server_lint.specs.declared.place.Place.{Place}
+use Rattle.doc_server_lint.specs.declared.place.Place.TheVariants as place
+use Rattle.doc_server_lint.specs.declared.what.What.{What}
+use Rattle.doc_server_lint.specs.declared.what.What.TheVariants.{TokenOf, Unknown}
+use Rattle.doc_server_lint.specs.Faults.{Rows, fault_of_key, faults_of_closed, faults_of_held, faults_of_keys, faults_of_page}
+use Rattle.doc_server_lint.specs.Faults.{faults_of_pages}
+use Rattle.doc_server_lint.specs.Faults.{faults_of_reader, faults_of_readers, finding_of, row_of, source_fault, with_row}
+use Rattle.doc_server_lint.specs.Laws.{first_refusal, is_clear, is_refusal}
+use Rattle.doc_server_lint.specs.Rules.{Keys, names_of, page_keys, reader_keys}
+use Rattle.doc_server_lint.specs.Unknown.{meant, unknown_in, unknown_in_table, unknown_key}
+use Rattle.doc_server_lint.specs.Values.{key_fault}
+
+module _ (test : Finding → Bool) where
+  -- of two lists the first
+  pub first_append : (found more : List Finding)
+      → first_refusal test (found ++ more) ≡ option_or (first_refusal test found) (first_refusal test more)
+  first_append [] more = refl
+  first_append (finding ∷ found) more = by (is_refusal finding && test finding) (first_append found more)
+    where
+      by : (b : Bool) → first_refusal test (found ++ more) ≡ option_or (first_refusal test found) (first_refusal test more)
+          → option_map (λ one. one.place) (cond b (Some finding) (find (λ one. is_refusal one && test one) (found ++ more)))
+          ≡ option_or (option_map (λ one. one.place) (cond b (Some finding) (find (λ one. is_refusal one && test one) found)))
+          (first_refusal test more)
+      by true rest = refl
+      by false rest = rest
+
+  -- none where there is no refusal
+  pub none_of_clear : (found : List Finding) → is_clear found ≡ true → first_refusal test found ≡ None
+  none_of_clear [] clear = refl
+  none_of_clear (finding ∷ found) clear = by (is_refusal finding) (none_of_clear found) clear
+    where
+      by : (b : Bool) → (is_clear found ≡ true → first_refusal test found ≡ None) → (not b && is_clear found) ≡ true
+          → option_map (λ one. one.place) (cond (b && test finding) (Some finding) (find (λ one. is_refusal one && test one) found)) ≡ None
+      by true rest clear = cc
+      by false rest clear = rest clear
+
+-- what holds of each
+abbrev pub Each : {X : Type 0} → (X → Type 0) → List X → Type 0
+Each P [] = Unit {0}
+Each P (x ∷ xs) = P x × Each P xs
+
+pub each_append : {X : Type 0} (P : X → Type 0) (xs ys : List X) → Each P xs → Each P ys → Each P (xs ++ ys)
+each_append P [] ys a b = b
+each_append P (x ∷ xs) ys a b = (a.0, each_append P xs ys a.1 b)
+
+pub each_flat : {X Y : Type 0} (P : Y → Type 0) (tell : X → List Y) (xs : List X) → ((x : X) → Each P (tell x)) → Each P (flat_map tell xs)
+each_flat P tell [] each = tt
+each_flat P tell (x ∷ xs) each = each_append P (tell x) (flat_map tell xs) (each x) (each_flat P tell xs each)
+
+-- findings of one place
+abbrev pub AreAt : Place → List Finding → Type 0
+AreAt place found = Each (λ finding. finding.place ≡ place) found
+
+pub none_elsewhere : (test : Place → Bool) (place : Place) (found : List Finding) → test place ≡ false → AreAt place found
+    → first_refusal (λ finding. test finding.place) found ≡ None
+none_elsewhere test place [] is are = refl
+none_elsewhere test place (finding ∷ found) is are =
+    by (is_refusal finding) (test finding.place) (none_elsewhere test place found is are.1) (ap test are.0 ∙ is)
+  where
+    by : (b t : Bool) → first_refusal (λ one. test one.place) found ≡ None → t ≡ false
+        → option_map (λ one. one.place) (cond (b && t) (Some finding) (find (λ one. is_refusal one && test one.place) found)) ≡ None
+    by b true rest never = cc
+    by true false rest never = rest
+    by false false rest never = rest
+
+pub first_here : (test : Place → Bool) (place : Place) (found : List Finding) → test place ≡ true → AreAt place found
+    → is_clear found ≡ false → first_refusal (λ finding. test finding.place) found ≡ Some place
+first_here test place [] is are bad = cc
+first_here test place (finding ∷ found) is are bad =
+    by (is_refusal finding) (test finding.place) (first_here test place found is are.1) (ap test are.0 ∙ is) bad
+  where
+    by : (b t : Bool) → (is_clear found ≡ false → first_refusal (λ one. test one.place) found ≡ Some place) → t ≡ true
+        → (not b && is_clear found) ≡ false
+        → option_map (λ one. one.place) (cond (b && t) (Some finding) (find (λ one. is_refusal one && test one.place) found)) ≡ Some place
+    by b false rest never bad = cc
+    by true true rest holds bad = ap Some are.0
+    by false true rest holds bad = rest bad
+
+-- ---- where things are told
+
+finding_at : (is_fault : Bool) (place : Place) (key : Option (List ℕ)) (what : Option What)
+    → AreAt place (finding_of is_fault place key what)
+finding_at is_fault place key None = tt
+finding_at is_fault place key (Some what) = (refl, tt)
+
+pub keys_at_place : (place : Place) (keys : Keys) (held : List ℕ → Option Data) → AreAt place (faults_of_keys place keys held)
+keys_at_place place keys held =
+    each_flat (λ finding. finding.place ≡ place) (fault_of_key place held) keys
+    (λ key. finding_at true place (Some key.0) (key_fault key.1 (held key.0)))
+
+unknown_at : (place : Place) (known : List (List ℕ)) (value : Data) → AreAt place (unknown_in true place known value)
+unknown_at place known value = by (as_table value)
+  where
+    by_key : (key : List ℕ) (b : Bool)
+        → AreAt place (if b then []
+        else record { place = place; key = Some key; what = Unknown (meant known key); is_fault = true } ∷ [])
+    by_key key true = tt
+    by_key key false = (refl, tt)
+
+    by : (table : Option Members) → AreAt place (unknown_in_table true place known table)
+    by None = tt
+    by (Some table) =
+        each_flat (λ finding. finding.place ≡ place) (unknown_key true place known) (keys_in table) (λ key. by_key key
+        (is_one_of known key))
+
+pub closed_at : (place : Place) (keys : Keys) (value : Data) → AreAt place (faults_of_closed place keys value)
+closed_at place keys value =
+    each_append (λ finding. finding.place ≡ place) (unknown_in true place (names_of keys) value) _ (unknown_at place (names_of keys) value)
+    (keys_at_place place keys (λ key. get key value))
+
+pub held_at : (place : Place) (keys : Keys) (held : Option Data) → AreAt place (faults_of_held place keys held)
+held_at place keys None = tt
+held_at place keys (Some value) = closed_at place keys value
+
+pub page_at : (n : ℕ) (row : Data) → AreAt (place.Page n) (faults_of_page n row)
+page_at n row =
+    each_append (λ finding. finding.place ≡ place.Page n) (faults_of_keys (place.Page n) page_keys (λ key. get key row)) _
+    (keys_at_place (place.Page n) page_keys (λ key. get key row))
+    (finding_at true (place.Page n) None (source_fault (get (codes "text") row) (get (codes "file") row)))
+
+pub reader_at : (tokens : Rows) (n : ℕ) (row : Data) → AreAt (place.Reader n) (faults_of_reader tokens n row)
+reader_at tokens n row =
+    each_append (λ finding. finding.place ≡ place.Reader n) (faults_of_keys (place.Reader n) reader_keys (λ key. get key row)) _
+    (keys_at_place (place.Reader n) reader_keys (λ key. get key row))
+    (finding_at true (place.Reader n) (Some (codes "token")) (option_map TokenOf (row_of tokens (token_in row))))
+
+-- ---- where nothing of a kind is told
+
+pub no_readers : (test : Place → Bool) → ((n : ℕ) → test (place.Reader n) ≡ false) → (tokens : Rows) (n : ℕ) (rows : Items)
+    → first_refusal (λ finding. test finding.place) (faults_of_readers tokens n rows) ≡ None
+no_readers test is tokens n no_items = refl
+no_readers test is tokens n (item row rest) =
+    let here = none_elsewhere test (place.Reader n) (faults_of_reader tokens n row) (is n) (reader_at tokens n row) in
+    first_append (λ finding. test finding.place) (faults_of_reader tokens n row) _
+    ∙ (λ i. option_or (here i) (no_readers test is (with_row tokens (token_in row) n) (n + 1) rest i))
+
+pub no_pages : (test : Place → Bool) → ((n : ℕ) → test (place.Page n) ≡ false) → (n : ℕ) (rows : Items)
+    → first_refusal (λ finding. test finding.place) (faults_of_pages n rows) ≡ None
+no_pages test is n no_items = refl
+no_pages test is n (item row rest) =
+    let here = none_elsewhere test (place.Page n) (faults_of_page n row) (is n) (page_at n row) in
+    first_append (λ finding. test finding.place) (faults_of_page n row) _ ∙ (λ i. option_or (here i) (no_pages test is (n + 1) rest i))

@@ -1,0 +1,94 @@
+-- The definitions on worked examples.
+use lib.Utf8.{encode}
+use Rattle.std.proofs.Common.{◌≡◌, ℕ, List, [], ◌∷◌, true, false, codes, refl}
+use Rattle.std.specs.Prelude.{Some, None, option_map}
+use Rattle.std.specs.Fmt.{digits}
+use Rattle.std.specs.Str.{chars}
+use Rattle.strsim.specs.Edits.{cost_at, next_row, rows}
+use Rattle.toml.specs.Parse.{parse_document}
+use Rattle.toml.proofs.OnLiterals.{toml_on_literals}
+use Rattle.doc_page_parts.specs.Paths.{is_path}
+use Rattle.doc_store_readers.specs.Groups.{groups_of_names}
+use Rattle.doc_server_config.specs.BadFiles.{shown_name}
+use Rattle.doc_server_lint.specs.declared.finding.Finding.{Finding}
+use Rattle.doc_server_lint.specs.declared.place.Place.{Place}
+use Rattle.doc_server_lint.specs.declared.place.Place.TheVariants as place
+use Rattle.doc_server_lint.specs.declared.what.Kind.TheVariants as kind
+use Rattle.doc_server_lint.specs.declared.what.What.{What}
+use Rattle.doc_server_lint.specs.declared.what.What.TheVariants as what
+use Rattle.doc_server_lint.specs.Faults.{faults_of_folders, faults_of_pages, faults_of_tables, rows_at}
+use Rattle.doc_server_lint.specs.Lines.{finding_line}
+use Rattle.doc_server_lint.specs.Rules.{names_of, reader_keys}
+use Rattle.doc_server_lint.specs.Unknown.{meant}
+
+abbrev fault : Place → List ℕ → What → Finding
+fault place key what = record { place = place; key = Some key; what = what; is_fault = true }
+
+-- ---- tables
+
+no_number : option_map faults_of_tables (parse_document (codes "[listen]\nconnections = 0\nidle_seconds = 30\n"))
+    ≡ Some (fault place.Listen (codes "connections") (what.MustBe (kind.Integer 65535)) ∷ [])
+unfolding toml_on_literals
+no_number = refl
+
+unknown_key : option_map faults_of_tables (parse_document (codes "[markdown]\ntable = true\nskip_bom = 1\n"))
+    ≡ Some (fault place.Markdown (codes "table") (what.Unknown (Some (codes "tables")))
+    ∷ fault place.Markdown (codes "skip_bom") (what.MustBe kind.Boolean) ∷ [])
+unfolding toml_on_literals chars rows next_row cost_at
+unknown_key = refl
+
+bad_login : option_map faults_of_tables (parse_document (codes "[browse]\nlogin = \"digest\"\n"))
+    ≡ Some (fault place.Browse (codes "login") what.Bad ∷ [])
+unfolding toml_on_literals
+bad_login = refl
+
+-- ---- pages and folders
+
+bad_pages : option_map (λ document. faults_of_pages 1 (rows_at (codes "page") document))
+    (parse_document (codes "[[page]]\ntext = \"\"\n[[page]]\npath = \"/\"\n[[page]]\npath = \"a\"\ntext = \"\"\nfile = \"a\"\n"))
+    ≡ Some (fault (place.Page 1) (codes "path") what.Missing ∷ fault (place.Page 2) (codes "path") what.NoPath
+    ∷ record { place = place.Page 2; key = None; what = what.NoSource; is_fault = true }
+    ∷ record { place = place.Page 3; key = None; what = what.TwoSources; is_fault = true } ∷ [])
+unfolding toml_on_literals is_path chars
+bad_pages = refl
+
+bad_groups : option_map (λ document. faults_of_pages 1 (rows_at (codes "page") document))
+    (parse_document (codes "[[page]]\npath = \"a\"\ntext = \"\"\ngroups = [\"ok\", \"A\"]\n"))
+    ≡ Some (fault (place.Page 1) (codes "groups") (what.NoGroup (codes "A")) ∷ [])
+unfolding toml_on_literals is_path chars groups_of_names
+bad_groups = refl
+
+bad_folder : option_map (λ document. faults_of_folders 1 (rows_at (codes "folder") document))
+    (parse_document (codes "[[folder]]\npath = \"d\"\nonbad = 1\nnames = \"nfd\"\nreadme = 1\n"))
+    ≡ Some (fault (place.Folder 1) (codes "onbad") (what.Unknown (Some (codes "on_bad"))) ∷ fault (place.Folder 1) (codes "names") what.Bad
+    ∷ fault (place.Folder 1) (codes "readme") (what.MustBe kind.Boolean) ∷ [])
+unfolding toml_on_literals chars rows next_row cost_at
+bad_folder = refl
+
+-- ---- keys that may be meant
+
+onwer : meant (names_of reader_keys) (codes "onwer") ≡ Some (codes "owner")
+unfolding chars rows next_row cost_at
+onwer = refl
+
+far_away : meant (names_of reader_keys) (codes "colour") ≡ None
+unfolding chars rows next_row cost_at
+far_away = refl
+
+-- ---- lines
+
+warning_line : finding_line (codes "site.toml") (Some 7) None
+    (record { place = place.Reader 2; key = Some (codes "onwer"); what = what.Unknown (Some (codes "owner")); is_fault = false })
+    ≡ codes "site.toml:7: reader 2: warning: unknown key `onwer`: is `owner` meant?\n"
+unfolding shown_name chars encode digits
+warning_line = refl
+
+page_line : finding_line (codes "site.toml") None (Some (codes "a.md")) (fault (place.Page 12) (codes "text") what.LongText)
+    ≡ codes "site.toml: page 12 (a.md): `text` has more than 1048576 bytes\n"
+unfolding shown_name chars encode digits
+page_line = refl
+
+document_line : finding_line (codes "site.toml") None None (fault place.Document (codes "cache") (what.MustBe (kind.Integer 4096)))
+    ≡ codes "site.toml: `cache` must be an integer from 1 to 4096\n"
+unfolding shown_name chars encode digits
+document_line = refl

@@ -1,0 +1,5 @@
+use Rattle.doc_server_lint.proofs.FirstLaw.{bad_page_is_told}
+use Rattle.doc_server_lint.proofs.laws.a_bad_page_is_told_first.Goals as goal
+
+pub returns : goal.returns
+returns c = bad_page_is_told

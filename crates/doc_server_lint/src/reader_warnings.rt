@@ -1,0 +1,97 @@
+//! What of readers may be meant otherwise.
+
+ghost use Rattle.std.specs.Prelude.{◌≡◌, ◌++◌, OnOk, codes};
+ghost use Rattle.toml.specs.Data.{get};
+ghost use Rattle.toml.specs.View.{items_view, view};
+ghost use Rattle.doc_store_readers.specs.Readers.{owner_at, token_in};
+ghost use Rattle.doc_server_lint.specs.Warnings.{has_owner, is_owner, owners_warning, token_warning, warnings_of_reader};
+ghost use Rattle.doc_server_lint.specs.Warnings.{warnings_of_readers};
+
+use crate::finding::Finding;
+use crate::place::Place;
+use crate::reader_faults::token_in;
+use crate::row_line::count;
+use crate::rule::READER_KEYS;
+use crate::table_faults::push_told;
+use crate::unknown::push_unknown_in;
+use crate::what::What;
+use doc_page_parts::failure::Memory;
+use doc_page_parts::heap::{Heap, Vec};
+use toml::Value;
+
+/// How many characters a token has at least, so that nobody guesses it.
+const TOKEN_LENGTH: usize = 22;
+
+/// What is told of all readers together.
+pub(crate) fn owners_warning(rows: &[Value]) -> Option<What>
+    ensures { result ≡ owners_warning (items_view rows.now) }
+{
+    if count(rows) == 0 {
+        return Some(What::NoReaders);
+    }
+    if has_owner(rows) {
+        return None;
+    }
+    Some(What::NoOwner)
+}
+
+fn has_owner(rows: &[Value]) -> bool
+    ensures { result ≡ has_owner (items_view rows.now) }
+{
+    for row in rows {
+        if is_owner(row) {
+            return true;
+        }
+    }
+    false
+}
+
+fn is_owner(row: &Value) -> bool
+    ensures { result ≡ is_owner (owner_at (get (codes "owner") (view row.now))) }
+{
+    match row.get("owner") {
+        Some(owner) => match owner.as_bool() {
+            Some(is_owner) => is_owner,
+            None => false,
+        },
+        None => false,
+    }
+}
+
+/// Adds what is told of each reader.
+pub(crate) fn push_warnings_of_readers(
+    heap: Heap,
+    found: &mut Vec<Finding>,
+    rows: &[Value],
+) -> Result<(), Memory>
+    ensures { OnOk result (found.new.items ≡ found.old.items
+        ++ warnings_of_readers 1 (items_view rows.now)) }
+{
+    for (index, row) in rows.iter().enumerate() {
+        push_warnings_of_reader(heap, found, index + 1, row)?;
+    }
+    Ok(())
+}
+
+fn push_warnings_of_reader(
+    heap: Heap,
+    found: &mut Vec<Finding>,
+    number: usize,
+    row: &Value,
+) -> Result<(), Memory>
+    ensures { OnOk result (found.new.items ≡ found.old.items
+        ++ warnings_of_reader number (view row.now)) }
+{
+    let place = Place::Reader(number);
+    push_unknown_in(heap, found, false, place, READER_KEYS, row)?;
+    push_told(heap, found, false, place, Some("token"), token_warning(row))
+}
+
+fn token_warning(row: &Value) -> Option<What>
+    ensures { result ≡ token_warning (token_in (view row.now)) }
+{
+    if token_in(row)?.len() >= TOKEN_LENGTH {
+        return None;
+    }
+    Some(What::ShortToken)
+}

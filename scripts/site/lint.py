@@ -1,0 +1,239 @@
+"""Tries `lint`: each fault and each warning alone, two at once, and random configurations with a fault that is put into one of their rows:
+it has to be told of that row, with its line where no text before it looks like a header, and `listen` has to take a configuration
+where `lint` ends with 0, and only there. Lines are counted here.
+
+    python3 scripts/site/lint.py PROGRAM [COUNT [SEED]]
+
+Builds nothing: PROGRAM is crates/docs_server/out/docs_server, or any other build. 200 configurations take some 20 seconds.
+"""
+import itertools, os, random, re, subprocess, sys
+sys.path.insert(1, os.path.dirname(__file__) + "/../lib")
+from scene import HOST, Scene, put
+
+scene = Scene(seconds=600, seconds_each=1, numbers=(200, 1), told="{right} of {all} as they should be")
+TOKEN = "a-token-that-nobody-guesses-soon"
+READER = f'[[reader]]\ntoken = "{TOKEN}"\nowner = true\ngroups = ["team"]\n'
+PAGE = '[[page]]\npath = "a.md"\ntext = "A"\n'
+FOLDER = '[[folder]]\npath = "folder"\n'
+GOOD = READER + PAGE
+# the longest text of a page, and one that is longer
+MOST_TEXT = "x" * 1_048_576
+
+
+# ---- what is told
+
+def ran(words, **given):
+    return subprocess.run([scene.program, *words], capture_output=True, timeout=60, **given)
+
+
+def lint(text):
+    """The lines that `lint` prints of a text, and its status."""
+    put("site.toml", text)
+    it = ran(["lint", "site.toml"])
+    return it.stdout.decode(errors="replace").splitlines(), it.returncode, it.stderr
+
+
+def is_taken(text):
+    """Whether `listen` takes a text: its input is at its end, so it ends at once."""
+    put("site.toml", text)
+    return ran(["listen", "site.toml", f"{HOST}:0"], input=b"").returncode == 0
+
+
+def told(name, text, *lines):
+    """A text of which these lines are told, and no others. A fault is a line without `warning: `."""
+    found, status, error = lint(text)
+    is_fault = any("warning: " not in line for line in lines)
+    scene.check(name, found == [f"site.toml{line}" for line in lines] and status == int(is_fault) and error == b"",
+                f"wanted {list(lines)}, found {found}, status {status}, {error!r}")
+    scene.check(f"{name}: listen", is_taken(text) == (not is_fault), f"taken {not is_fault} wanted")
+    scene.check(f"{name}: no token", TOKEN not in "\n".join(found))
+
+
+# ---- each alone
+
+READER_FAULTS = {"owner = 1": "`owner` must be a boolean", 'groups = "team"': "`groups` must be an array of strings",
+                 "groups = [1]": "`groups` must be an array of strings", 'groups = ["Team"]': '`groups`: "Team" is no name of a group',
+                 f"groups = {[f'g{i}' for i in range(33)]}".replace("'", '"'): "`groups`: more than 32"}
+MARKDOWN_FAULTS = {"skip_bom = 1": "`skip_bom` must be a boolean", "tables = 1": "`tables` must be a boolean",
+                   "front_matter = true": "`front_matter` must be a string", 'front_matter = "no"': "`front_matter` is bad",
+                   "titel = 1": "unknown key `titel`",
+                   "table = true": "unknown key `table`: is `tables` meant?", "task = true": "unknown key `task`: is `tasks` meant?"}
+LISTEN_FAULTS = {"connections = 0": "`connections` must be an integer from 1 to 65535",
+                 "idle_seconds = 86401": "`idle_seconds` must be an integer from 1 to 86400",
+                 "media_bytes = 1.0": "`media_bytes` must be an integer from 1 to 1073741824",
+                 "connection = 1": "unknown key `connection`: is `connections` meant?", "far_away = 1": "unknown key `far_away`"}
+BROWSE_FAULTS = {"title = 1": "`title` must be a string", 'title = ""': "`title` is bad", 'language = "e"': "`language` is bad",
+                 'home = "../a"': "`home` is bad", 'guest = ["A"]': '`guest`: "A" is no name of a group',
+                 'login = "digest"': "`login` is bad",
+                 "editing = 1": "`editing` must be a boolean", "titel = 1": "unknown key `titel`: is `title` meant?"}
+FOLDER_FAULTS = {"prefix = 1": "`prefix` must be a string", 'prefix = "/"': "`prefix` is bad",
+                 'groups = ["A"]': '`groups`: "A" is no name of a group', 'except = "a"': "`except` must be an array of strings",
+                 'except = [".."]': "`except` is bad", "media = false": "`media` is bad",
+                 'media = ["exe"]': "`media` is bad", 'names = "nfd"': "`names` is bad", "readme = 1": "`readme` must be a boolean",
+                 'on_bad = "ask"': "`on_bad` is bad", 'onbad = "skip"': "unknown key `onbad`: is `on_bad` meant?",
+                 "file = 1": "unknown key `file`"}
+PAGE_FAULTS = {'groups = "team"': "`groups` must be an array of strings", 'groups = ["a b"]': '`groups`: "a b" is no name of a group'}
+TOP_FAULTS = {"keep_alive = 1": "`keep_alive` must be a boolean", "cache = 0": "`cache` must be an integer from 1 to 4096",
+              "entities = 1": "`entities` must be a string", "markdown = 1": "`markdown` must be a table",
+              "listen = 1": "`listen` must be a table",
+              "browse = 1": "`browse` must be a table", "folder = 1": "`folder` must be an array of tables"}
+
+
+def documents():
+    """What is told of the document as a whole, and of its own keys."""
+    told("good", GOOD)
+    told("no TOML", GOOD + "x =\n", ":8:4: " + lint(GOOD + "x =\n")[0][0].split(": ", 1)[1])
+    told("no readers", PAGE, ": warning: no readers")
+    told("no owner", READER.replace("true", "false") + PAGE, ": warning: no owner")
+    for line, text in TOP_FAULTS.items():
+        told(line, f"{line}\n{GOOD}", f": {text}")
+    told("reader = 1", "reader = 1\n" + PAGE, ": `reader` must be an array of tables", ": warning: no readers")
+    told("page = 1", "page = 1\n" + READER, ": `page` must be an array of tables")
+    told("readers", "readers = 1\n" + GOOD, ": warning: unknown key `readers`: is `reader` meant?")
+    told("another key", "colour = 1\n" + GOOD, ": warning: unknown key `colour`")
+
+
+def tables():
+    """What is told of the keys of each table."""
+    for table, faults in (("markdown", MARKDOWN_FAULTS), ("listen", LISTEN_FAULTS), ("browse", BROWSE_FAULTS)):
+        for line, text in faults.items():
+            told(f"{table}: {line}", f"{GOOD}[{table}]\n{line}\n", f": [{table}]: {text}")
+
+
+def readers():
+    for line, text in READER_FAULTS.items():
+        told(line, f'{GOOD}[[reader]]\ntoken = "{TOKEN}2"\n{line}\n', f":8: reader 2: {text}")
+    told("no token", GOOD + "[[reader]]\n", ":8: reader 2: no `token`")
+    told("no text", GOOD + "[[reader]]\ntoken = 1\n", ":8: reader 2: `token` must be a string")
+    told("no bearer token", GOOD + '[[reader]]\ntoken = "a b"\n', ":8: reader 2: `token` is no bearer token")
+    told("twice", GOOD + f'[[reader]]\ntoken = "{TOKEN}"\n', ":8: reader 2: the token of reader 1")
+    told("short", GOOD + '[[reader]]\ntoken = "tok"\n', ":8: reader 2: warning: a token of fewer than 22 characters can be guessed")
+    told("onwer", GOOD + f'[[reader]]\ntoken = "{TOKEN}2"\nonwer = true\n', ":8: reader 2: warning: unknown key `onwer`: is `owner` meant?")
+
+
+def pages():
+    told("no path", GOOD + '[[page]]\ntext = ""\n', ":8: page 2: no `path`")
+    told("no path of a page", GOOD + '[[page]]\npath = "/a"\ntext = ""\n', ":8: page 2: `path` is no path of a page")
+    for line, text in PAGE_FAULTS.items():
+        told(line, f'{GOOD}[[page]]\npath = "b.md"\ntext = ""\n{line}\n', f":8: page 2 (b.md): {text}")
+    told("no source", GOOD + '[[page]]\npath = "b.md"\n', ":8: page 2 (b.md): neither `text` nor `file`")
+    told("two sources", GOOD + '[[page]]\npath = "b.md"\ntext = ""\nfile = "b"\n', ":8: page 2 (b.md): both `text` and `file`")
+    told("text that is none", GOOD + '[[page]]\npath = "b.md"\ntext = 1\n', ":8: page 2 (b.md): `text` must be a string")
+    told("the longest text", GOOD + f'[[page]]\npath = "b.md"\ntext = "{MOST_TEXT}"\n')
+    told("a longer text", GOOD + f'[[page]]\npath = "b.md"\ntext = "{MOST_TEXT}x"\n',
+         ":8: page 2 (b.md): `text` has more than 1048576 bytes")
+    told("covered", GOOD + '[[page]]\npath = "a.md"\ntext = ""\n', ":8: page 2 (a.md): warning: the path of page 1, which this one covers")
+    told("unheld", GOOD + '[[page]]\npath = "b.md"\ntext = ""\ngroups = ["ops", "team"]\n',
+         ":8: page 2 (b.md): warning: a group that no reader has: ops")
+    told("guests", GOOD + '[[page]]\npath = "b.md"\ntext = ""\ngroups = ["ops"]\n[browse]\nguest = ["ops"]\n')
+    told("another key", GOOD + '[[page]]\npath = "b.md"\ntext = ""\ngroup = []\n',
+         ":8: page 2 (b.md): warning: unknown key `group`: is `groups` meant?")
+
+
+def folders():
+    for line, text in FOLDER_FAULTS.items():
+        told(f"folder: {line}", f"{GOOD}{FOLDER}{line}\n", f":8: folder 1: {text}")
+    told("folder without a path", GOOD + '[[folder]]\nprefix = "a"\n', ":8: folder 1: no `path`")
+    told("folder's group", f'{GOOD}{FOLDER}groups = ["ops"]\n', ":8: folder 1: warning: a group that no reader has: ops")
+
+
+def pairs():
+    """Two at once: both are told, the document's before the rows', and faults before warnings."""
+    for (first, one), (second, other) in itertools.product(TOP_FAULTS.items(), list(READER_FAULTS.items())[:3]):
+        if first.split(" ")[0] != "browse":
+            told(f"{first}, {second}", f'{first}\n{GOOD}[[reader]]\ntoken = "{TOKEN}2"\n{second}\n', f": {one}", f":9: reader 2: {other}")
+    told("warning and fault", "colour = 1\n" + GOOD + "[[reader]]\n", ":9: reader 2: no `token`", ": warning: unknown key `colour`")
+
+
+# ---- random ones
+
+def written(key, value):
+    return random.choice([f"{key} = {value}", f"{key}={value}", f"  {key} = {value}  # as it is"])
+
+
+def header(key):
+    return random.choice([f"[[{key}]]"] * 4 + [f"  [[{key}]]", f"[[ {key} ]]", f"[[{key}]]  # another one"])
+
+
+def good_row(key, number):
+    """The lines of a good row."""
+    if key == "reader":
+        lines = [written("token", f'"{TOKEN}-{number}"'), written("owner", "true"), written("groups", '["team", "ops"]')]
+    elif key == "page":
+        lines = [written("path", f'"pages/{number}.md"'), written("text", '"""\nA text\n"""' if random.random() < 0.3 else '"A text"')]
+    else:
+        lines = [written("path", '"folder"'), written("prefix", f'"f{number}"')]
+    if random.random() < 0.5 and key != "folder" and "groups" not in " ".join(lines):
+        lines.append(written("groups", '["team"]'))
+    random.shuffle(lines)
+    return lines
+
+
+SEEDS = {"reader": [("owner = 1", "`owner` must be a boolean"), ('token = "a b"', "`token` is no bearer token")],
+         "page": [('path = "/a"', "`path` is no path of a page"), ('file = "x"', "both `text` and `file`"), ('groups = ["A"]', "")],
+         "folder": [('names = "nfd"', "`names` is bad"), ("readme = 1", "`readme` must be a boolean"),
+                    ("colour = 1", "unknown key `colour`")]}
+
+
+def with_fault(lines, seed):
+    """A row in which a line stands in the place of the one that has its key, or behind the others."""
+    key = seed.split(" ")[0]
+    kept = [line for line in lines if not re.match(rf"\s*{key}\s*=", line)]
+    return kept + [seed]
+
+
+def random_text(fault):
+    """A configuration, and where the fault was put: its table, its row and its line, and whether a text before it looks like a header."""
+    table, (seed, _) = fault if fault else (None, ("", ""))
+    counts = {"reader": random.randint(1, 5), "page": random.randint(1, 8), "folder": random.randint(1, 3)}
+    row = random.randint(1, counts[table]) if table else 0
+    keys = list(counts)
+    random.shuffle(keys)
+    out, line, has_decoy, decoyed = [], None, False, False
+    for key, number in ((key, number) for key in keys for number in range(1, counts[key] + 1)):
+        out += random.choice([[], [""], ["# a row"], [f"# [[{key}]]"]])
+        lines = good_row(key, number)
+        if (key, number) == (table, row):
+            line, decoyed = "\n".join(out + [""]).count("\n") + 1, has_decoy
+            lines = with_fault(lines, seed)
+        elif key == "page" and random.random() < 0.1:
+            lines = [it for it in lines if not it.lstrip().startswith("text")] + [f'text = """\n[[{table or "page"}]]\n"""']
+            has_decoy = True
+        out += [header(key)] + lines
+    return "\n".join(out) + "\n", row, line, decoyed
+
+
+def tried(number):
+    """Another configuration, with a fault or without."""
+    faults = [(table, seed) for table, seeds in SEEDS.items() for seed in seeds]
+    fault = random.choice([None] + faults * 2) if random.random() < 0.9 else None
+    text, row, line, decoyed = random_text(fault)
+    found, status, error = lint(text)
+    bad = [it for it in found if "warning: " not in it]
+    if fault:
+        table, (seed, words) = fault
+        where = rf"(:{line})?" if decoyed else f":{line}"
+        form = rf"site\.toml{where}: {table} {row}( \([^)]*\))?: .*{re.escape(words)}"
+        scene.check(f"text {number}: {seed}", len(bad) == 1 and re.fullmatch(form, bad[0]) and status == 1 and not error,
+                    f"wanted {form!r}, found {found}, status {status}, {error!r}\n{text}")
+    else:
+        scene.check(f"text {number}", not bad and status == 0 and not error, f"found {found}, status {status}, {error!r}\n{text}")
+    scene.check(f"text {number}: listen", is_taken(text) == (status == 0), f"status {status}\n{text}")
+    scene.check(f"text {number}: no token", TOKEN not in "\n".join(found))
+
+
+def main():
+    count, seed = scene.numbers
+    random.seed(seed)
+    put("folder/in.md", "In the folder\n")
+    documents()
+    tables()
+    readers()
+    pages()
+    folders()
+    pairs()
+    for number in range(count):
+        tried(number)
+
+
+scene.run(main)
