@@ -1,14 +1,16 @@
-"""Tries `lint`: each fault and each warning alone, two at once, and random configurations with a fault that is put into one of their rows:
-it has to be told of that row, with its line where no text before it looks like a header, and `listen` has to take a configuration
-where `lint` ends with 0, and only there. Lines are counted here.
+"""Tries `lint`: each fault and each warning alone, of a document, of the files that it names and of a journal; two at once; and random
+configurations with a fault that is put into one of their rows: it has to be told of that row, with its line where no text before it
+looks like a header. `listen` has to take a configuration where `lint` ends with 0, and only there; where it refuses the document its
+line stands below the faults that `lint` tells. Lines are counted here, and journals are written here.
 
     python3 scripts/site/lint.py PROGRAM [COUNT [SEED]]
 
 Builds nothing: PROGRAM is crates/docs_server/out/docs_server, or any other build. 200 configurations take some 20 seconds.
 """
-import itertools, os, random, re, subprocess, sys
+import fcntl, itertools, os, random, re, subprocess, sys
 sys.path.insert(1, os.path.dirname(__file__) + "/../lib")
-from scene import HOST, Scene, put
+from scene import HOST, Scene, got, put
+from journals import written as journal_of
 
 scene = Scene(seconds=600, seconds_each=1, numbers=(200, 1), told="{right} of {all} as they should be")
 TOKEN = "a-token-that-nobody-guesses-soon"
@@ -33,20 +35,30 @@ def lint(text):
     return it.stdout.decode(errors="replace").splitlines(), it.returncode, it.stderr
 
 
-def is_taken(text):
-    """Whether `listen` takes a text: its input is at its end, so it ends at once."""
-    put("site.toml", text)
-    return ran(["listen", "site.toml", f"{HOST}:0"], input=b"").returncode == 0
+def listened(*options):
+    """What `listen` says of the text that was put last, and whether it takes it: its input is at its end, so it ends at once."""
+    it = ran(["listen", "site.toml", f"{HOST}:0", *options], input=b"")
+    return it.stderr.decode(errors="replace"), it.returncode == 0
 
 
-def told(name, text, *lines):
-    """A text of which these lines are told, and no others. A fault is a line without `warning: `."""
+def is_fault(line):
+    return "warning: " not in line
+
+
+def told(name, text, *lines, by="config"):
+    """A text of which these lines are told, and no others. A fault is a line without `warning: `; `listen` stops with a line that begins
+    so, below the faults where they are the document's."""
     found, status, error = lint(text)
-    is_fault = any("warning: " not in line for line in lines)
-    scene.check(name, found == [f"site.toml{line}" for line in lines] and status == int(is_fault) and error == b"",
+    faults = [f"site.toml{line}\n" for line in lines if is_fault(line)]
+    scene.check(name, found == [f"site.toml{line}" for line in lines] and status == bool(faults) and error == b"",
                 f"wanted {list(lines)}, found {found}, status {status}, {error!r}")
-    scene.check(f"{name}: listen", is_taken(text) == (not is_fault), f"taken {not is_fault} wanted")
-    scene.check(f"{name}: no token", TOKEN not in "\n".join(found))
+    said, taken = listened()
+    told_by_it = "".join(faults) if by.startswith("config") and not by.endswith("twice") else ""
+    begin = f"{told_by_it}docs_server: {by}"
+    scene.check(f"{name}: listen", taken == (not faults) and (said.startswith(begin) and said.count("\n") == begin.count("\n") + 1
+                                                              if faults else all("passed over" in it for it in said.splitlines())),
+                f"taken {taken}, wanted {begin if faults else ''!r}, said {said!r}")
+    scene.check(f"{name}: no token", TOKEN not in "\n".join(found) + said)
 
 
 # ---- each alone
@@ -82,7 +94,9 @@ TOP_FAULTS = {"keep_alive = 1": "`keep_alive` must be a boolean", "cache = 0": "
 def documents():
     """What is told of the document as a whole, and of its own keys."""
     told("good", GOOD)
-    told("no TOML", GOOD + "x =\n", ":8:4: " + lint(GOOD + "x =\n")[0][0].split(": ", 1)[1])
+    found, status, error = lint(GOOD + "x =\n" + "[[reader]]\n")
+    scene.check("no TOML", len(found) == 1 and re.fullmatch(r"site\.toml:8:4: \S.*", found[0]) and (status, error) == (1, b""), found)
+    scene.check("no TOML: listen", listened() == (f"{found[0]}\ndocs_server: config\n", False))
     told("no readers", PAGE, ": warning: no readers")
     told("no owner", READER.replace("true", "false") + PAGE, ": warning: no owner")
     for line, text in TOP_FAULTS.items():
@@ -121,7 +135,7 @@ def pages():
     told("text that is none", GOOD + '[[page]]\npath = "b.md"\ntext = 1\n', ":8: page 2 (b.md): `text` must be a string")
     told("the longest text", GOOD + f'[[page]]\npath = "b.md"\ntext = "{MOST_TEXT}"\n')
     told("a longer text", GOOD + f'[[page]]\npath = "b.md"\ntext = "{MOST_TEXT}x"\n',
-         ":8: page 2 (b.md): `text` has more than 1048576 bytes")
+         ":8: page 2 (b.md): `text` has more than 1048576 bytes", by="refused")
     told("covered", GOOD + '[[page]]\npath = "a.md"\ntext = ""\n', ":8: page 2 (a.md): warning: the path of page 1, which this one covers")
     told("unheld", GOOD + '[[page]]\npath = "b.md"\ntext = ""\ngroups = ["ops", "team"]\n',
          ":8: page 2 (b.md): warning: a group that no reader has: ops")
@@ -135,6 +149,120 @@ def folders():
         told(f"folder: {line}", f"{GOOD}{FOLDER}{line}\n", f":8: folder 1: {text}")
     told("folder without a path", GOOD + '[[folder]]\nprefix = "a"\n', ":8: folder 1: no `path`")
     told("folder's group", f'{GOOD}{FOLDER}groups = ["ops"]\n', ":8: folder 1: warning: a group that no reader has: ops")
+
+
+def files():
+    """What is told of the files that a configuration names."""
+    put("latin.md", b"\xff")
+    put("long.md", "x" * 1_048_577)
+    put("most.md", "x" * 1_048_576)
+    put("table", "zwp 200B\n")
+    put("bad_table", "zwp 200B\nzwp\n")
+    put("twice_table", "zwp 200B\n\nzwp 200C\n")
+    put("built_in", "amp 200B\n")
+    put("long_table", "zwp 200B\n" + "\n" * 1_048_577)
+    for name, text in (("bad/a.md", "A"), ("bad/b%.md", "B"), ("bad/d/c?.md", "C"), ("other/in.md", "I"), ("other/deep/a.md", "A"),
+                       ("media/c.png", "c"), ("more/c.png", "d"), ("more/d.txt", "d")):
+        put(name, text)
+    named = '[[page]]\npath = "b.md"\nfile = "%s"\n'
+    told("the longest file", GOOD + named % "most.md")
+    for file, reason, by in (("absent.md", "no such file", "cannot read absent.md\n"), ("folder", "a folder", "cannot read folder\n"),
+                             ("latin.md", "not UTF-8", "cannot read latin.md\n"), ("long.md", "more than 1048576 bytes", "refused")):
+        told(f"file: {file}", GOOD + named % file, f":8: page 2 (b.md): cannot read {file}: {reason}", by=by)
+    told("a table", 'entities = "table"\n' + GOOD)
+    told("a long table", 'entities = "long_table"\n' + GOOD)
+    for file, text, by in (("absent", "cannot read absent: no such file", "cannot read absent\n"),
+                           ("folder", "cannot read folder: a folder", "cannot read folder\n"),
+                           ("latin.md", "cannot read latin.md: not UTF-8", "cannot read latin.md\n"),
+                           ("bad_table", "line 2: bad row", "bad table"), ("twice_table", "line 3: a name that has other characters", "bad table"),
+                           ("built_in", "line 1: a name that has other characters", "bad table")):
+        told(f"entities: {file}", f'entities = "{file}"\n' + GOOD, f": {text}", by=by)
+    told("all files", 'entities = "absent"\n' + GOOD + named % "latin.md" + FOLDER.replace("folder\"", "nowhere\""),
+         ": cannot read absent: no such file", ":9: page 2 (b.md): cannot read latin.md: not UTF-8",
+         ":12: folder 1: cannot read nowhere: no such file", by="cannot read absent\n")
+    put("site.toml", b"x = '\xff'\n")
+    it = ran(["lint", "site.toml"])
+    scene.check("not UTF-8", (it.stdout, it.returncode, it.stderr) == (b"site.toml: not UTF-8\n", 1, b""), it)
+    scene.check("not UTF-8: listen", listened() == ("docs_server: cannot read site.toml\n", False))
+    it = ran(["lint", "nowhere.toml"])
+    scene.check("no file", (it.stdout, it.returncode, it.stderr) == (b"", 2, b"docs_server: cannot read nowhere.toml\n"), it)
+
+
+def folder(path, more=""):
+    return f'[[folder]]\npath = "{path}"\n{more}'
+
+
+def files_of_folders():
+    bad = ["bad/b%.md: a path has no \\, %, ? or #", "bad/d/c?.md: a path has no \\, %, ? or #"]
+    told("bad files", GOOD + folder("bad", 'prefix = "b/"\n'), *(f":8: folder 1: cannot read {it}" for it in bad), by=f"cannot read {bad[0]}\n")
+    told("bad files are passed over", GOOD + folder("bad", 'prefix = "b/"\non_bad = "skip"\n'),
+         *(f":8: folder 1: warning: cannot read {it}" for it in bad))
+    told("no folder", GOOD + folder("nowhere"), ":8: folder 1: cannot read nowhere: no such file", by="cannot read nowhere\n")
+    told("no folder to except", GOOD + folder("folder", 'except = ["nowhere"]\n'), ":8: folder 1: cannot read folder/nowhere: no such file",
+         by="cannot read folder/nowhere\n")
+    told("a page's path", GOOD.replace("a.md", "in.md") + folder("folder"), ":8: folder 1: in.md: the path of page 1", by="config: in.md twice\n")
+    told("a folder's path", GOOD + folder("folder") + folder("other"), ":10: folder 2: in.md: a page of folder 1", by="config: in.md twice\n")
+    told("two of them", GOOD + PAGE.replace("a.md", "in.md") + folder("folder") + folder("other", 'prefix = "deep/"\n') + folder("other"),
+         ":11: folder 1: in.md: the path of page 2", ":16: folder 3: in.md: the path of page 2", by="config: in.md twice\n")
+    told("a page of that name", GOOD.replace("a.md", "c.png") + folder("media", "media = true\n"), ":8: folder 1: c.png: the path of page 1",
+         ":8: folder 1: warning: no page", by="config: c.png twice\n")
+    told("a medium of that name", GOOD + folder("media", "media = true\n") + folder("more", 'media = ["png"]\n'),
+         ":11: folder 2: c.png: a page of folder 1", ":8: folder 1: warning: no page", ":11: folder 2: warning: no page",
+         by="config: c.png twice\n")
+    told("no page", GOOD + folder("media"), ":8: folder 1: warning: no page")
+    rows = "".join(f'[[page]]\npath = "{i}"\ntext = ""\n' for i in range(10_000))
+    told("many pages", READER + rows)
+    told("many, and one twice", READER + rows + '[[page]]\npath = "5"\ntext = ""\n',
+         ":30005: page 10001 (5): warning: the path of page 6, which this one covers")
+    told("more pages", READER + rows + PAGE, ": more than 10000 pages", by="refused")
+    told("more by a folder", READER + rows + folder("folder"), ":30005: folder 1: cannot read folder/in.md: more than 10000 pages",
+         ":30005: folder 1: warning: no page", by="cannot read folder/in.md: more than 10000 pages\n")
+
+
+# journals over GOOD, each with what is told of it, and what `listen` stops with
+PUT_B, EDITED = b"put b.md - B\n", ": warning: a.md: an edit of the journal stands in its place"
+JOURNALS = {"none": ([], [], ""), "another page": ([PUT_B], [], ""), "the same": ([b"put a.md - A\n"], [], ""),
+            "another text": ([b"put a.md - B\n"], [EDITED], ""), "other groups": ([b"put a.md team A\n"], [EDITED], ""),
+            "moved": ([PUT_B, b"move a.md c.md\n"], [EDITED], ""), "removed": ([b"remove a.md\n"], [EDITED], ""),
+            "back again": ([b"put a.md - B\n", b"put a.md - A\n"], [], ""),
+            "no edit": ([PUT_B, b"connect\n"], [": bad journal record 2"], "bad journal record 2\n"),
+            "refused": ([PUT_B, PUT_B + b"move b.md a.md\n"], [": journal record 2 refused, line 2"], "journal record 2 refused, line 2\n")}
+
+
+def journal_told(name, journal, lines, by):
+    """A journal of which these lines are told over a good configuration. Nothing is written, and no lock is asked for."""
+    found = ran(["lint", "site.toml", "--journal", "kept"])
+    faults = any(map(is_fault, lines))
+    wanted = ("".join(f"site.toml{line}\n" for line in lines).encode(), int(faults), b"")
+    scene.check(f"journal: {name}", (found.stdout, found.returncode, found.stderr) == wanted, f"wanted {wanted}, found {found}")
+    scene.check(f"journal: {name}: as it was", journal is None or got("kept") == journal)
+    said, taken = listened("--journal", "kept")
+    scene.check(f"journal: {name}: listen", (said, taken) == (f"docs_server: {by}", False) if faults else taken, said)
+
+
+def journals():
+    put("site.toml", GOOD)
+    for name, (texts, lines, by) in JOURNALS.items():
+        put("kept", journal_of(texts))
+        with open("kept", "rb") as file:
+            fcntl.flock(file, fcntl.LOCK_EX)
+            found = ran(["lint", "site.toml", "--journal", "kept"])
+            scene.check(f"journal: {name}: while a server has it", found.stdout.decode() == "".join(f"site.toml{it}\n" for it in lines), found)
+        journal_told(name, got("kept"), lines, by)
+    for name, journal, lines, by in (("damaged", journal_of([PUT_B])[:-1], [": journal record 2"], "journal record 2\n"),
+                                     ("torn", journal_of([PUT_B]) + b"torn", [], ""), ("foreign", b"none", [": no journal"], "no journal\n")):
+        put("kept", journal)
+        journal_told(name, journal, lines, by)
+    os.remove("kept")
+    journal_told("absent", None, [": warning: no journal yet"], "")
+    os.remove("kept")
+    os.mkdir("kept")
+    journal_told("a folder", None, [": cannot open journal"], "cannot open journal\n")
+    os.rmdir("kept")
+    # a document's fault, or a file's, is told alone
+    for text in (GOOD + "[[reader]]\n", GOOD + folder("nowhere")):
+        put("site.toml", text)
+        scene.check("journal: behind a fault", ran(["lint", "site.toml", "--journal", "nowhere"]).stdout == ran(["lint", "site.toml"]).stdout)
 
 
 def pairs():
@@ -209,7 +337,7 @@ def tried(number):
     fault = random.choice([None] + faults * 2) if random.random() < 0.9 else None
     text, row, line, decoyed = random_text(fault)
     found, status, error = lint(text)
-    bad = [it for it in found if "warning: " not in it]
+    bad = [*filter(is_fault, found)]
     if fault:
         table, (seed, words) = fault
         where = rf"(:{line})?" if decoyed else f":{line}"
@@ -218,8 +346,10 @@ def tried(number):
                     f"wanted {form!r}, found {found}, status {status}, {error!r}\n{text}")
     else:
         scene.check(f"text {number}", not bad and status == 0 and not error, f"found {found}, status {status}, {error!r}\n{text}")
-    scene.check(f"text {number}: listen", is_taken(text) == (status == 0), f"status {status}\n{text}")
-    scene.check(f"text {number}: no token", TOKEN not in "\n".join(found))
+    said, taken = listened()
+    scene.check(f"text {number}: listen", taken == (status == 0) and (taken or said.startswith("".join(f"{it}\n" for it in bad))),
+                f"status {status}, {said!r}\n{text}")
+    scene.check(f"text {number}: no token", TOKEN not in "\n".join(found) + said)
 
 
 def main():
@@ -231,6 +361,9 @@ def main():
     readers()
     pages()
     folders()
+    files()
+    files_of_folders()
+    journals()
     pairs()
     for number in range(count):
         tried(number)

@@ -251,7 +251,7 @@ fn read_medium<R: AllocGlobal + Files>(
 
 /// The text of a file, or why it has none that a page may have.
 #[tactic(auto, unfolding(doc_store::specs::Store::text_limit))]
-fn read_text<R: AllocGlobal + Files>(
+pub fn read_text<R: AllocGlobal + Files>(
     rt: &R,
     heap: Heap,
     name: &str,
@@ -272,7 +272,7 @@ fn read_text<R: AllocGlobal + Files>(
 }
 
 /// Why a file that is open isn't read.
-fn read_reason<R: Files>(rt: &R, name: &str) -> Reason
+pub fn read_reason<R: Files>(rt: &R, name: &str) -> Reason
     ensures { is_of_path result ≡ false }
 {
     match metadata(rt, name) {

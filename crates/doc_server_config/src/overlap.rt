@@ -135,7 +135,7 @@ impl Marks {
 }
 
 /// How many different paths some pages have.
-pub(crate) fn path_count(heap: Heap, pages: &[PageRow]) -> Result<usize, Memory> {
+pub fn path_count(heap: Heap, pages: &[PageRow]) -> Result<usize, Memory> {
     let marks = Marks::of(heap, pages)?;
     Ok(marks.entries.len())
 }

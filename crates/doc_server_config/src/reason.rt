@@ -90,7 +90,7 @@ fn part_count(text: &str) -> usize
 }
 
 /// Why the system opens no file.
-pub(crate) fn open_reason(kind: ErrorKind) -> Reason
+pub fn open_reason(kind: ErrorKind) -> Reason
     ensures absent { kind ≡ ErrorKind.NotFound → result ≡ Reason.Absent }
     ensures denied { kind ≡ ErrorKind.PermissionDenied → result ≡ Reason.Denied }
     ensures folder { kind ≡ ErrorKind.IsADirectory → result ≡ Reason.IsFolder }

@@ -13,7 +13,7 @@ use Rattle.doc_server_lint.specs.declared.what.What.TheVariants.{NoGroup, ManyGr
 use Rattle.doc_server_lint.specs.declared.what.What.TheVariants.{Covers}
 use Rattle.doc_server_lint.specs.declared.what.What.TheVariants.{ManyPages, NotUtf8, CannotRead, PathOfPage, PathOfFolder, BadRow}
 use Rattle.doc_server_lint.specs.declared.what.What.TheVariants.{NameAgain}
-use Rattle.doc_server_lint.specs.declared.what.What.TheVariants.{NoPage, Edited, Record}
+use Rattle.doc_server_lint.specs.declared.what.What.TheVariants.{NoPage, Edited, Journal}
 
 -- a text of the configuration between two others: control characters don't stand as they are
 abbrev pub named : List ℕ → List ℕ → List ℕ → List ℕ
@@ -61,10 +61,10 @@ what_text key (CannotRead file reason) = named (codes "cannot read ") file (code
 what_text key (PathOfPage path page) = named [] path (codes ": the path of page ") ++ numbered [] page []
 what_text key (PathOfFolder path folder) = named [] path (codes ": a page of folder ") ++ numbered [] folder []
 what_text key (BadRow line) = numbered (codes "line ") line (codes ": bad row")
-what_text key (NameAgain line) = numbered (codes "line ") line (codes ": a name of an earlier line, otherwise")
+what_text key (NameAgain line) = numbered (codes "line ") line (codes ": a name that has other characters")
 what_text key NoPage = codes "no page"
 what_text key (Edited path) = named [] path (codes ": an edit of the journal stands in its place")
-what_text key (Record told) = named (codes "journal record ") told []
+what_text key (Journal told) = named [] told []
 
 -- ---- where
 

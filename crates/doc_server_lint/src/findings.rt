@@ -2,6 +2,7 @@
 
 ghost use Rattle.std.specs.Prelude.{◌≡◌, ◌++◌, IfOk, OnOk};
 ghost use Rattle.toml.specs.View.{table_view};
+ghost use Rattle.doc_server_lint.specs.Faults.{faults_of};
 ghost use Rattle.doc_server_lint.specs.Findings.{findings_of};
 ghost use Rattle.doc_server_lint.specs.Warnings.{warnings_of, warnings_of_rows};
 
@@ -28,6 +29,15 @@ pub fn findings(heap: Heap, document: &Table) -> Result<List<Finding>, Memory>
     let mut found = Vec::new(heap);
     push_faults(heap, &mut found, document)?;
     push_warnings(heap, &mut found, document)?;
+    Ok(List::new(found))
+}
+
+/// The faults of a document alone.
+pub fn faults(heap: Heap, document: &Table) -> Result<List<Finding>, Memory>
+    ensures { IfOk result (λ found. found ≡ faults_of (table_view document.now)) }
+{
+    let mut found = Vec::new(heap);
+    push_faults(heap, &mut found, document)?;
     Ok(List::new(found))
 }
 

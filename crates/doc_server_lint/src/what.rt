@@ -64,12 +64,12 @@ pub enum What {
     PathOfFolder(Text, usize),
     /// This line of the table of entities is bad.
     BadRow(usize),
-    /// This line of it has a name that an earlier line has with another value.
+    /// This line of it gives other characters to a name that is built in or stands in an earlier line.
     NameAgain(usize),
     /// The folder has no page.
     NoPage,
     /// An edit of the journal stands in the place of the page of this path.
     Edited(Text),
-    /// What is told of a record of the journal.
-    Record(Text),
+    /// What stops a server of its journal.
+    Journal(Text),
 }

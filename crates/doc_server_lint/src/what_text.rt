@@ -66,7 +66,7 @@ pub(crate) fn push_what(out: &mut String, key: &str, what: &What) -> Result<(), 
                 out,
                 "line ",
                 *line,
-                ": a name of an earlier line, otherwise",
+                ": a name that has other characters",
             )
         }
         What::NoPage => push(out, "no page"),
@@ -78,7 +78,7 @@ pub(crate) fn push_what(out: &mut String, key: &str, what: &What) -> Result<(), 
                 ": an edit of the journal stands in its place",
             )
         }
-        What::Record(told) => push_named(out, "journal record ", told.get(), ""),
+        What::Journal(told) => push_named(out, "", told.get(), ""),
     }
 }
 

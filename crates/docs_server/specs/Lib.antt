@@ -1,4 +1,5 @@
 pub mod Compacting
+pub mod Linting
 pub mod Listening
 pub mod Moving
 pub mod NamedDevices

@@ -4,27 +4,24 @@ ghost use Rattle.std.specs.Prelude.{◌≡◌, ◌++◌, IfOk, OnOk, None};
 ghost use Rattle.doc_server_config.specs.Overlaps.{first_overlap, media_paths, paths_of};
 ghost use Rattle.docs_server.specs.Listening.{HasOthers, HasOwnPaths, IsOwn};
 
-use crate::files::{Pages, Site, config_of, document_of, read_file, site_of};
+use crate::files::{Pages, Site, document_of, read_file, site_of};
 use crate::folder_rows::{FolderRows, read_folders};
 use crate::gathered_media::gathered_media;
 use crate::listen_fault::ListenFault;
+use crate::told_faults::tell_faults;
+use crate::written::{Written, written_in};
 use doc_media::media::Media;
 use doc_page_parts::failure::Memory;
 use doc_page_parts::heap::{Heap, Vec};
 use doc_page_parts::list::List;
-use doc_people::settings::Browse;
 use doc_server_config::bad_file::BadFile;
 use doc_server_config::bounds::Bounds;
-use doc_server_config::browsing::BrowseError;
 use doc_server_config::config::SiteConfig;
-use doc_server_config::document::Document;
 use doc_server_config::folder::Folder;
 use doc_server_config::folder_pages::FolderMedium;
-use doc_server_config::listening::{Listening, ListeningError};
 use doc_server_config::overlap::{first_medium_overlap, first_overlap};
 use doc_server_config::page_row::PageRow;
 use doc_server_config::readme::{Move, free_moves};
-use doc_server_streams::fault::Fault;
 use std::rt::Files;
 
 /// A configured site with the bounds of a server that runs.
@@ -50,7 +47,7 @@ struct Gathered {
 }
 
 /// A configuration that is read up to its folders.
-struct Opened {
+pub struct Opened {
     site: Site,
     bounds: Bounds,
     folders: List<Folder>,
@@ -58,18 +55,32 @@ struct Opened {
 
 /// The site of the configuration of this name, its folders' pages behind its own, and its bounds. Folders are read last; `Twice` has
 /// the first path, in the order of these pages, that a page of a folder and another page have.
-pub fn read_bounded<R: AllocGlobal + Files + Clone + Drop>(
+pub fn read_bounded<R: AllocGlobal + Clone + Drop + Eprint + Files>(
     rt: &R,
     name: &str,
 ) -> Result<Bounded, ListenFault>
     ensures { IfOk result (λ bounded. HasOwnPaths bounded.site.pages.config) }
 {
     let heap = rt.alloc();
+    let opened = open(rt, heap, name)?;
+    let bounded = bounded_of(rt, heap, opened)?;
+    Ok(bounded)
+}
+
+/// The same of a configuration that is read up to its folders.
+pub fn bounded_of<R: AllocGlobal + Clone + Drop + Files>(
+    rt: &R,
+    heap: Heap,
+    opened: Opened,
+) -> Result<Bounded, ListenFault>
+    ensures { IfOk result
+        (λ bounded. HasOthers opened.site.pages.config.pages bounded.site.pages.config.pages) }
+{
     let Opened {
         site,
         bounds,
         folders,
-    } = open(rt, heap, name)?;
+    } = opened;
     let Site { pages, entities } = site;
     let Gathered {
         pages,
@@ -87,7 +98,7 @@ pub fn read_bounded<R: AllocGlobal + Files + Clone + Drop>(
 }
 
 /// The files of the folders of the configuration of this name, which is read as far as that.
-pub fn read_all_folders<R: AllocGlobal + Files + Clone + Drop>(
+pub fn read_all_folders<R: AllocGlobal + Clone + Drop + Eprint + Files>(
     rt: &R,
     name: &str,
 ) -> Result<FolderRows, ListenFault> {
@@ -102,38 +113,46 @@ pub fn read_all_folders<R: AllocGlobal + Files + Clone + Drop>(
     read_folders(rt, heap, rows, folders.get(), bounds.media_bytes, true)
 }
 
-/// The configuration of this name, with the files that it names.
-fn open<R: AllocGlobal + Files>(rt: &R, heap: Heap, name: &str) -> Result<Opened, ListenFault>
+/// The configuration of this name, with the files that it names. What is wrong with its document is printed.
+fn open<R: AllocGlobal + Eprint + Files>(
+    rt: &R,
+    heap: Heap,
+    name: &str,
+) -> Result<Opened, ListenFault>
     ensures { IfOk result (λ opened. IsOwn opened.site.pages.config) }
 {
     let text = read_file(rt, heap, name)?;
-    let document = document_of(heap, &text)?;
-    let mut config = config_of(heap, &document)?;
-    let Listening { bounds, folders } = listening_of(heap, &document)?;
-    config.browse = browse_of(heap, &document)?;
+    match written_of(heap, &text) {
+        Ok(written) => opened_of(rt, heap, written),
+        Err(fault) => {
+            tell_faults(rt, heap, name, &text);
+            Err(fault)
+        }
+    }
+}
+
+/// What the text of a configuration says of a server that runs.
+fn written_of(heap: Heap, text: &str) -> Result<Written, ListenFault>
+    ensures { IfOk result (λ written. IsOwn written.config) }
+{
+    let document = document_of(heap, text)?;
+    written_in(heap, &document)
+}
+
+/// A configuration, with the files that it names.
+pub fn opened_of<R: Files>(rt: &R, heap: Heap, written: Written) -> Result<Opened, ListenFault>
+    ensures { IfOk result (λ opened. opened.site.pages.config ≡ written.config) }
+{
+    let Written {
+        config,
+        bounds,
+        folders,
+    } = written;
     Ok(Opened {
         site: site_of(rt, heap, config)?,
         bounds,
         folders,
     })
-}
-
-/// What a server that runs goes by, of a configuration's document.
-fn listening_of(heap: Heap, document: &Document) -> Result<Listening, ListenFault> {
-    match document.listening(heap) {
-        Ok(listening) => Ok(listening),
-        Err(ListeningError::Memory) => Err(ListenFault::Command(Fault::Memory)),
-        Err(e) => Err(ListenFault::Listening(e)),
-    }
-}
-
-/// The pages for people, of a configuration's document.
-fn browse_of(heap: Heap, document: &Document) -> Result<Option<Browse>, ListenFault> {
-    match document.browse(heap) {
-        Ok(browse) => Ok(browse),
-        Err(BrowseError::Memory) => Err(ListenFault::Command(Fault::Memory)),
-        Err(e) => Err(ListenFault::Browsing(e)),
-    }
 }
 
 /// The pages with those of folders behind them, and the folders' media.

@@ -1,83 +1,79 @@
-//! The command `lint`: what is told of a configuration, of its document and of the files that it names.
+//! The command `lint`: what is wrong with a configuration, and what in it may be meant otherwise.
+
+ghost use Rattle.std.specs.Prelude.{◌≡◌, false, true, IfOk};
+ghost use Rattle.toml.specs.View.{table_view};
+ghost use Rattle.doc_server_lint.specs.Laws.{is_taken};
+ghost use Rattle.docs_server.specs.Linting.{IsTaken};
 
 use crate::files::open_file;
+use crate::linted_files::{add, add_of_files};
+use crate::linted_journal::add_of_journal;
+use crate::listen_fault::ListenFault;
 use crate::status::status_of;
-use doc_lines::entities::{Entities, TableError};
+use crate::written::{Written, written_in};
 use doc_page_parts::failure::Memory;
 use doc_page_parts::heap::{Heap, String, Vec};
-use doc_page_parts::text::Text;
-use doc_server_config::config::{ConfigError, SiteConfig};
+use doc_server_arguments::command::Lint;
 use doc_server_config::document::Document;
-use doc_server_config::folder::Folder;
-use doc_server_config::folder_pages::{FolderFile, read_folder};
-use doc_server_config::listening::{Listening, ListeningError};
-use doc_server_config::page_row::{PageRow, Source};
-use doc_server_config::taken::Taken;
 use doc_server_lint::finding::Finding;
 use doc_server_lint::findings::findings;
 use doc_server_lint::line::push_finding;
 use doc_server_lint::order::{has_fault, sort};
 use doc_server_lint::place::Place;
 use doc_server_lint::report::report;
-use doc_server_lint::sources::Sources;
 use doc_server_lint::syntax::{Reading, read};
 use doc_server_lint::what::What;
-use doc_server_streams::fault::Fault;
 use doc_server_streams::whole_input::read_whole;
 use doc_server_streams::whole_output::{flush, send};
 use doc_server_streams::write_to::WriteTo;
-use std::fs::File;
 use std::io;
 use std::rt::Files;
 
-/// How many bytes the text of a page has at most.
-const TEXT_LIMIT: usize = 1_048_576;
-
-/// Runs `lint`, and answers the status to end with: 1 where a fault is told.
-pub fn run_lint<P: AllocGlobal + Clone + Drop + Eprint + Files + Print>(
-    rt: &P,
-    config: &str,
-) -> u8 {
-    status_of(rt, lint(rt, config))
-}
-
-/// What is told, and whether a fault is.
+/// What is told, a line each, and whether a fault is.
 #[derive(Drop)]
 struct Told {
     lines: String,
     is_fault: bool,
 }
 
-fn lint<P: AllocGlobal + Clone + Drop + Files + Print>(rt: &P, config: &str) -> Result<u8, Fault> {
-    let told = told_of(rt, rt.alloc(), config)?;
+/// Runs `lint`, and answers the status to end with: 1 where a fault is told.
+pub fn run_lint<P: AllocGlobal + Clone + Drop + Eprint + Files + Print>(
+    rt: &P,
+    command: &Lint<'_>,
+) -> u8 {
+    status_of(rt, lint(rt, command))
+}
+
+/// The same, as a result.
+fn lint<P: AllocGlobal + Clone + Drop + Files + Print>(
+    rt: &P,
+    command: &Lint<'_>,
+) -> Result<u8, ListenFault> {
+    let told = told_of(rt, rt.alloc(), command)?;
     let mut output = WriteTo::new(io::writer(rt));
     send(&mut output, told.lines.as_bytes())?;
     flush(&mut output)?;
     Ok(if told.is_fault { 1 } else { 0 })
 }
 
-/// What is told of the configuration of this name.
-fn told_of<R: AllocGlobal + Files + Clone + Drop>(
+/// What is told of the configuration that a command names.
+fn told_of<R: AllocGlobal + Clone + Drop + Files>(
     rt: &R,
     heap: Heap,
-    name: &str,
-) -> Result<Told, Fault> {
-    let mut input = open_file(rt, heap, name)?;
-    let bytes = read_whole(heap, name, &mut input, usize::MAX)?;
-    let Ok(text) = String::from_utf8(bytes) else {
-        return not_utf8(heap, name);
-    };
-    match read(heap, name, text.as_str())? {
-        Reading::Broken(lines) => Ok(Told {
-            lines,
-            is_fault: true,
-        }),
-        Reading::Document(document) => told_of_document(rt, heap, name, text.as_str(), &document),
+    command: &Lint<'_>,
+) -> Result<Told, ListenFault> {
+    let mut input = open_file(rt, heap, command.config)?;
+    let bytes = read_whole(heap, command.config, &mut input, usize::MAX)?;
+    match String::from_utf8(bytes) {
+        Ok(text) => told_of_text(rt, heap, text.as_str(), command),
+        Err(_) => Ok(not_utf8(heap, command.config)?),
     }
 }
 
-/// A file that is no text.
-fn not_utf8(heap: Heap, name: &str) -> Result<Told, Fault> {
+/// What is told of a file that is no text.
+fn not_utf8(heap: Heap, name: &str) -> Result<Told, Memory>
+    ensures { IfOk result (λ told. told.is_fault ≡ true) }
+{
     let mut lines = String::new(heap);
     let finding = Finding {
         place: Place::Document,
@@ -92,175 +88,63 @@ fn not_utf8(heap: Heap, name: &str) -> Result<Told, Fault> {
     })
 }
 
-/// What is told of a document, and of the files that it names where it is taken.
-fn told_of_document<R: AllocGlobal + Files + Clone + Drop>(
+/// What is told of a configuration's text: without a fault it is one that a server takes.
+fn told_of_text<R: AllocGlobal + Clone + Drop + Files>(
     rt: &R,
     heap: Heap,
-    name: &str,
+    text: &str,
+    command: &Lint<'_>,
+) -> Result<Told, ListenFault>
+    ensures { IfOk result (λ told. told.is_fault ≡ false → IsTaken text.now) }
+{
+    match read(heap, command.config, text)? {
+        Reading::Broken(lines) => Ok(Told {
+            lines,
+            is_fault: true,
+        }),
+        Reading::Document(document) => told_of_document(rt, heap, text, &document, command),
+    }
+}
+
+/// What is told of a document. Files are looked at where it has no fault, and the journal where they have none either.
+fn told_of_document<R: AllocGlobal + Clone + Drop + Files>(
+    rt: &R,
+    heap: Heap,
     text: &str,
     document: &Document,
-) -> Result<Told, Fault> {
+    command: &Lint<'_>,
+) -> Result<Told, ListenFault>
+    ensures { IfOk result
+        (λ told. told.is_fault ≡ false → is_taken (table_view document.now.table) ≡ true) }
+{
     let mut found = findings(heap, &document.table)?.into_inner();
-    if let Some(taken) = taken_of(heap, document)? {
-        add_of_files(rt, heap, &mut found, &taken.config, &taken.listening)?;
-        sort(&mut found)?;
+    if has_fault(&found) {
+        let lines = report(heap, command.config, text, &document.table, &found)?;
+        return Ok(Told {
+            lines,
+            is_fault: true,
+        });
     }
+    add_behind(rt, heap, &mut found, document, command)?;
+    sort(&mut found)?;
     Ok(Told {
-        lines: report(heap, name, text, &document.table, &found)?,
+        lines: report(heap, command.config, text, &document.table, &found)?,
         is_fault: has_fault(&found),
     })
 }
 
-/// A document that is taken.
-#[derive(Drop)]
-struct TakenDocument {
-    config: SiteConfig,
-    listening: Listening,
-}
-
-/// What a document is taken as, where it is.
-fn taken_of(heap: Heap, document: &Document) -> Result<Option<TakenDocument>, Fault> {
-    let config = match document.config(heap) {
-        Ok(config) => config,
-        Err(ConfigError::Memory) => return Err(Fault::Memory),
-        Err(_) => return Ok(None),
-    };
-    match document.listening(heap) {
-        Ok(listening) => Ok(Some(TakenDocument { config, listening })),
-        Err(ListeningError::Memory) => Err(Fault::Memory),
-        Err(_) => Ok(None),
-    }
-}
-
-/// Adds what the files of a configuration tell.
-fn add_of_files<R: AllocGlobal + Files + Clone + Drop>(
+/// Adds what is told of the files behind a document without a fault, and of the journal, where one is named.
+fn add_behind<R: AllocGlobal + Clone + Drop + Files>(
     rt: &R,
     heap: Heap,
     found: &mut Vec<Finding>,
-    config: &SiteConfig,
-    listening: &Listening,
-) -> Result<(), Fault> {
-    if let Some(file) = &config.entities {
-        add_of_entities(rt, heap, found, file.get())?;
+    document: &Document,
+    command: &Lint<'_>,
+) -> Result<(), ListenFault> {
+    let written = written_in(heap, document)?;
+    add_of_files(rt, heap, found, &written)?;
+    match command.journal {
+        Some(journal) if !has_fault(found) => add_of_journal(rt, heap, found, written, journal),
+        _ => Ok(()),
     }
-    let mut sources = Sources::none(heap);
-    for (index, page) in config.pages.get().iter().enumerate() {
-        add_of_page(rt, heap, found, index + 1, page)?;
-        sources.add_page(heap, page.path.text(), index + 1)?;
-    }
-    let mut taken = Taken::beside(heap, config.pages.get(), listening.bounds.media_bytes)?;
-    for (index, folder) in listening.folders.get().iter().enumerate() {
-        add_of_folder(rt, heap, found, index + 1, folder, &mut taken, &mut sources)?;
-    }
-    Ok(())
-}
-
-/// The text of a file, or why there is none (the kinds of the system's refusals are `doc_server_config::reason`'s: `open_reason` would
-/// have to be public).
-fn text_of<R: Files>(rt: &R, heap: Heap, name: &str) -> Result<Result<String, &'static str>, Fault> {
-    let mut input = match File::open(rt, name) {
-        Ok(file) => doc_server_streams::read_from::ReadFrom::new(file),
-        Err(_) => return Ok(Err("cannot be read")),
-    };
-    match read_whole(heap, name, &mut input, usize::MAX) {
-        Ok(bytes) => Ok(String::from_utf8(bytes).map_err(|_| "not UTF-8")),
-        Err(Fault::Memory) => Err(Fault::Memory),
-        Err(_) => Ok(Err("cannot be read")),
-    }
-}
-
-/// Adds what the table of entities tells.
-fn add_of_entities<R: Files>(
-    rt: &R,
-    heap: Heap,
-    found: &mut Vec<Finding>,
-    file: &str,
-) -> Result<(), Fault> {
-    let what = match text_of(rt, heap, file)? {
-        Err(reason) => unread(heap, file, reason)?,
-        Ok(text) => match Entities::from_table(heap, text.as_str()) {
-            Ok(_entities) => return Ok(()),
-            Err(TableError::BadRow(line)) => What::BadRow(line),
-            Err(TableError::Twice(line)) => What::NameAgain(line),
-            Err(TableError::Memory) => return Err(Fault::Memory),
-        },
-    };
-    add(found, Place::Document, what, true)
-}
-
-/// Adds what the file of a page tells.
-fn add_of_page<R: Files>(
-    rt: &R,
-    heap: Heap,
-    found: &mut Vec<Finding>,
-    number: usize,
-    page: &PageRow,
-) -> Result<(), Fault> {
-    let Source::File(file) = &page.source else {
-        return Ok(());
-    };
-    let reason = match text_of(rt, heap, file.get())? {
-        Ok(text) if text.len() > TEXT_LIMIT => "more than 1048576 bytes",
-        Ok(_text) => return Ok(()),
-        Err(reason) => reason,
-    };
-    add(found, Place::Page(number), unread(heap, file.get(), reason)?, true)
-}
-
-/// Adds what the files of a folder tell.
-fn add_of_folder<R: AllocGlobal + Files + Clone + Drop>(
-    rt: &R,
-    heap: Heap,
-    found: &mut Vec<Finding>,
-    number: usize,
-    folder: &Folder,
-    taken: &mut Taken,
-    sources: &mut Sources,
-) -> Result<(), Fault> {
-    let place = Place::Folder(number);
-    let files = match read_folder(rt, heap, folder, taken) {
-        Ok(files) => files,
-        Err(Fault::CannotRead(name)) => {
-            let reason = Text::copy_of(heap, "cannot be read")?;
-            return add(found, place, What::CannotRead(Text::new(name), reason), true);
-        }
-        Err(fault) => return Err(fault),
-    };
-    let mut pages = 0usize;
-    for file in files.into_inner() {
-        let what = match file {
-            FolderFile::Page(page) => {
-                pages = pages.saturating_add(1);
-                sources.add_of_folder(heap, page.path.text(), number)?
-            }
-            FolderFile::Medium(medium) => sources.add_of_folder(heap, medium.path.text(), number)?,
-            FolderFile::Bad(bad) => {
-                let reason = Text::new(format!(in heap; "{}", bad.reason)?);
-                add(found, place, What::CannotRead(bad.name, reason), !folder.rules.skips)?;
-                None
-            }
-        };
-        if let Some(what) = what {
-            add(found, place, what, true)?;
-        }
-    }
-    if pages == 0 {
-        add(found, place, What::NoPage, false)?;
-    }
-    Ok(())
-}
-
-fn unread(heap: Heap, file: &str, reason: &str) -> Result<What, Memory> {
-    Ok(What::CannotRead(Text::copy_of(heap, file)?, Text::copy_of(heap, reason)?))
-}
-
-fn add(found: &mut Vec<Finding>, place: Place, what: What, is_fault: bool) -> Result<(), Fault> {
-    let finding = Finding {
-        place,
-        key: None,
-        what,
-        is_fault,
-    };
-    found.push(finding).map_err(Memory::from)?;
-    Ok(())
 }

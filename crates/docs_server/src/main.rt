@@ -11,6 +11,9 @@ mod files;
 mod folder_rows;
 mod gathered_media;
 mod held;
+mod lint;
+mod linted_files;
+mod linted_journal;
 mod listen_fault;
 mod listening;
 mod moving;
@@ -22,13 +25,16 @@ mod sites;
 mod status;
 mod system;
 mod system_place;
+mod told_faults;
 mod told_folders;
 mod torn;
 mod unanswered;
+mod written;
 
 use crate::arguments::words_of;
 use crate::commands::{run_demo, run_examples, run_render};
 use crate::compacting::run_compact;
+use crate::lint::run_lint;
 use crate::listening::run_listen;
 use crate::serving::run_serve;
 use crate::sites::{run_check, run_replay};
@@ -98,6 +104,7 @@ where
         Command::Listen(listen) => Ok(run_listen::<Brand, R>(rt, Blank::new(1), &listen)),
         Command::Compact(compact) => Ok(run_compact(rt, &compact)),
         Command::Folders(config) => Ok(run_folders(rt, config)),
+        Command::Lint(lint) => Ok(run_lint(rt, &lint)),
         Command::Version => told(rt, &VersionLines),
         Command::Help => told(rt, &HELP),
     }

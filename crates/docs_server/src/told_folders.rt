@@ -22,7 +22,7 @@ pub fn run_folders<P: AllocGlobal + Clone + Drop + Eprint + Files + Print>(
 }
 
 /// The same, as a result.
-fn folders_with<P: AllocGlobal + Clone + Drop + Files + Print>(
+fn folders_with<P: AllocGlobal + Clone + Drop + Eprint + Files + Print>(
     rt: &P,
     config: &str,
 ) -> Result<u8, ListenFault> {

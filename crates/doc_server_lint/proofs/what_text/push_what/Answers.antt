@@ -88,8 +88,8 @@ returns-in-Edited c =
     (ap (λ path. named [] path (codes ": an edit of the journal stands in its place")) (sym c.get-in-Edited.ensures))
     c.push_named-in-Edited.ensures
 
-pub returns-in-Record : goal.returns-in-Record
-returns-in-Record c =
-    of_text c.push_named-in-Record.result (string_bytes c.args.out.now) (string_bytes c.push_named-in-Record.new.out) c.args.key.now
-    (named (codes "journal record ") c.get-in-Record.result.now []) _ _ c.in-Record.is
-    (ap (λ told. named (codes "journal record ") told []) (sym c.get-in-Record.ensures)) c.push_named-in-Record.ensures
+pub returns-in-Journal : goal.returns-in-Journal
+returns-in-Journal c =
+    of_text c.push_named-in-Journal.result (string_bytes c.args.out.now) (string_bytes c.push_named-in-Journal.new.out) c.args.key.now
+    (named [] c.get-in-Journal.result.now []) _ _ c.in-Journal.is
+    (ap (λ told. named [] told []) (sym c.get-in-Journal.ensures)) c.push_named-in-Journal.ensures

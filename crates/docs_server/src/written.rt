@@ -1,0 +1,57 @@
+//! What the document of a configuration says of a server that runs.
+
+ghost use Rattle.std.specs.Prelude.{IfOk};
+ghost use Rattle.docs_server.specs.Listening.{IsOwn};
+
+use crate::files::config_of;
+use crate::listen_fault::ListenFault;
+use doc_page_parts::heap::Heap;
+use doc_page_parts::list::List;
+use doc_people::settings::Browse;
+use doc_server_config::bounds::Bounds;
+use doc_server_config::browsing::BrowseError;
+use doc_server_config::config::SiteConfig;
+use doc_server_config::document::Document;
+use doc_server_config::folder::Folder;
+use doc_server_config::listening::{Listening, ListeningError};
+use doc_server_streams::fault::Fault;
+
+/// What a document says of a server that runs.
+#[derive(Drop)]
+pub struct Written {
+    pub config: SiteConfig,
+    pub bounds: Bounds,
+    pub folders: List<Folder>,
+}
+
+/// What a document says of a server that runs, with its pages for people.
+pub fn written_in(heap: Heap, document: &Document) -> Result<Written, ListenFault>
+    ensures { IfOk result (λ written. IsOwn written.config) }
+{
+    let mut config = config_of(heap, document)?;
+    let Listening { bounds, folders } = listening_of(heap, document)?;
+    config.browse = browse_of(heap, document)?;
+    Ok(Written {
+        config,
+        bounds,
+        folders,
+    })
+}
+
+/// What a server that runs goes by, of a configuration's document.
+fn listening_of(heap: Heap, document: &Document) -> Result<Listening, ListenFault> {
+    match document.listening(heap) {
+        Ok(listening) => Ok(listening),
+        Err(ListeningError::Memory) => Err(ListenFault::Command(Fault::Memory)),
+        Err(e) => Err(ListenFault::Listening(e)),
+    }
+}
+
+/// The pages for people, of a configuration's document.
+fn browse_of(heap: Heap, document: &Document) -> Result<Option<Browse>, ListenFault> {
+    match document.browse(heap) {
+        Ok(browse) => Ok(browse),
+        Err(BrowseError::Memory) => Err(ListenFault::Command(Fault::Memory)),
+        Err(e) => Err(ListenFault::Browsing(e)),
+    }
+}
