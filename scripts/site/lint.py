@@ -46,18 +46,17 @@ def is_fault(line):
 
 
 def told(name, text, *lines, by="config"):
-    """A text of which these lines are told, and no others. A fault is a line without `warning: `; `listen` stops with a line that begins
-    so, below the faults where they are the document's."""
+    """A text of which these lines are told, and no others. `listen` stops with this line where one is a fault, below the faults where they
+    are the document's."""
     found, status, error = lint(text)
     faults = [f"site.toml{line}\n" for line in lines if is_fault(line)]
     scene.check(name, found == [f"site.toml{line}" for line in lines] and status == bool(faults) and error == b"",
                 f"wanted {list(lines)}, found {found}, status {status}, {error!r}")
     said, taken = listened()
-    told_by_it = "".join(faults) if by.startswith("config") and not by.endswith("twice") else ""
-    begin = f"{told_by_it}docs_server: {by}"
-    scene.check(f"{name}: listen", taken == (not faults) and (said.startswith(begin) and said.count("\n") == begin.count("\n") + 1
-                                                              if faults else all("passed over" in it for it in said.splitlines())),
-                f"taken {taken}, wanted {begin if faults else ''!r}, said {said!r}")
+    is_of_document = by.startswith("config") and not by.endswith(" twice")
+    wanted = "".join(faults if is_of_document else []) + f"docs_server: {by}\n"
+    scene.check(f"{name}: listen", not taken and said == wanted if faults else taken and all("passed over" in it for it in said.splitlines()),
+                f"taken {taken}, wanted {wanted if faults else ''!r}, said {said!r}")
     scene.check(f"{name}: no token", TOKEN not in "\n".join(found) + said)
 
 
@@ -100,7 +99,8 @@ def documents():
     told("no readers", PAGE, ": warning: no readers")
     told("no owner", READER.replace("true", "false") + PAGE, ": warning: no owner")
     for line, text in TOP_FAULTS.items():
-        told(line, f"{line}\n{GOOD}", f": {text}")
+        key = line.split(" ")[0]
+        told(line, f"{line}\n{GOOD}", f": {text}", by=f"config: `{key}` is bad" if key in ("listen", "folder", "browse") else "config")
     told("reader = 1", "reader = 1\n" + PAGE, ": `reader` must be an array of tables", ": warning: no readers")
     told("page = 1", "page = 1\n" + READER, ": `page` must be an array of tables")
     told("readers", "readers = 1\n" + GOOD, ": warning: unknown key `readers`: is `reader` meant?")
@@ -111,7 +111,8 @@ def tables():
     """What is told of the keys of each table."""
     for table, faults in (("markdown", MARKDOWN_FAULTS), ("listen", LISTEN_FAULTS), ("browse", BROWSE_FAULTS)):
         for line, text in faults.items():
-            told(f"{table}: {line}", f"{GOOD}[{table}]\n{line}\n", f": [{table}]: {text}")
+            by = "config" if table == "markdown" else f"config: `{table if 'unknown' in text else line.split(' ')[0]}` is bad"
+            told(f"{table}: {line}", f"{GOOD}[{table}]\n{line}\n", f": [{table}]: {text}", by=by)
 
 
 def readers():
@@ -146,8 +147,9 @@ def pages():
 
 def folders():
     for line, text in FOLDER_FAULTS.items():
-        told(f"folder: {line}", f"{GOOD}{FOLDER}{line}\n", f":8: folder 1: {text}")
-    told("folder without a path", GOOD + '[[folder]]\nprefix = "a"\n', ":8: folder 1: no `path`")
+        by = "a key is unknown" if "unknown" in text else f"`{line.split(' ')[0]}` is bad"
+        told(f"folder: {line}", f"{GOOD}{FOLDER}{line}\n", f":8: folder 1: {text}", by=f"config: folder 1: {by}")
+    told("folder without a path", GOOD + '[[folder]]\nprefix = "a"\n', ":8: folder 1: no `path`", by="config: folder 1: `path` is bad")
     told("folder's group", f'{GOOD}{FOLDER}groups = ["ops"]\n', ":8: folder 1: warning: a group that no reader has: ops")
 
 
@@ -166,20 +168,20 @@ def files():
         put(name, text)
     named = '[[page]]\npath = "b.md"\nfile = "%s"\n'
     told("the longest file", GOOD + named % "most.md")
-    for file, reason, by in (("absent.md", "no such file", "cannot read absent.md\n"), ("folder", "a folder", "cannot read folder\n"),
-                             ("latin.md", "not UTF-8", "cannot read latin.md\n"), ("long.md", "more than 1048576 bytes", "refused")):
+    for file, reason, by in (("absent.md", "no such file", "cannot read absent.md"), ("folder", "a folder", "cannot read folder"),
+                             ("latin.md", "not UTF-8", "cannot read latin.md"), ("long.md", "more than 1048576 bytes", "refused")):
         told(f"file: {file}", GOOD + named % file, f":8: page 2 (b.md): cannot read {file}: {reason}", by=by)
     told("a table", 'entities = "table"\n' + GOOD)
     told("a long table", 'entities = "long_table"\n' + GOOD)
-    for file, text, by in (("absent", "cannot read absent: no such file", "cannot read absent\n"),
-                           ("folder", "cannot read folder: a folder", "cannot read folder\n"),
-                           ("latin.md", "cannot read latin.md: not UTF-8", "cannot read latin.md\n"),
+    for file, text, by in (("absent", "cannot read absent: no such file", "cannot read absent"),
+                           ("folder", "cannot read folder: a folder", "cannot read folder"),
+                           ("latin.md", "cannot read latin.md: not UTF-8", "cannot read latin.md"),
                            ("bad_table", "line 2: bad row", "bad table"), ("twice_table", "line 3: a name that has other characters", "bad table"),
                            ("built_in", "line 1: a name that has other characters", "bad table")):
         told(f"entities: {file}", f'entities = "{file}"\n' + GOOD, f": {text}", by=by)
     told("all files", 'entities = "absent"\n' + GOOD + named % "latin.md" + FOLDER.replace("folder\"", "nowhere\""),
          ": cannot read absent: no such file", ":9: page 2 (b.md): cannot read latin.md: not UTF-8",
-         ":12: folder 1: cannot read nowhere: no such file", by="cannot read absent\n")
+         ":12: folder 1: cannot read nowhere: no such file", by="cannot read absent")
     put("site.toml", b"x = '\xff'\n")
     it = ran(["lint", "site.toml"])
     scene.check("not UTF-8", (it.stdout, it.returncode, it.stderr) == (b"site.toml: not UTF-8\n", 1, b""), it)
@@ -194,21 +196,21 @@ def folder(path, more=""):
 
 def files_of_folders():
     bad = ["bad/b%.md: a path has no \\, %, ? or #", "bad/d/c?.md: a path has no \\, %, ? or #"]
-    told("bad files", GOOD + folder("bad", 'prefix = "b/"\n'), *(f":8: folder 1: cannot read {it}" for it in bad), by=f"cannot read {bad[0]}\n")
-    told("bad files are passed over", GOOD + folder("bad", 'prefix = "b/"\non_bad = "skip"\n'),
+    told("bad files", GOOD + folder("bad", 'prefix = "b"\n'), *(f":8: folder 1: cannot read {it}" for it in bad), by=f"cannot read {bad[0]}")
+    told("bad files are passed over", GOOD + folder("bad", 'prefix = "b"\non_bad = "skip"\n'),
          *(f":8: folder 1: warning: cannot read {it}" for it in bad))
-    told("no folder", GOOD + folder("nowhere"), ":8: folder 1: cannot read nowhere: no such file", by="cannot read nowhere\n")
+    told("no folder", GOOD + folder("nowhere"), ":8: folder 1: cannot read nowhere: no such file", by="cannot read nowhere")
     told("no folder to except", GOOD + folder("folder", 'except = ["nowhere"]\n'), ":8: folder 1: cannot read folder/nowhere: no such file",
-         by="cannot read folder/nowhere\n")
-    told("a page's path", GOOD.replace("a.md", "in.md") + folder("folder"), ":8: folder 1: in.md: the path of page 1", by="config: in.md twice\n")
-    told("a folder's path", GOOD + folder("folder") + folder("other"), ":10: folder 2: in.md: a page of folder 1", by="config: in.md twice\n")
-    told("two of them", GOOD + PAGE.replace("a.md", "in.md") + folder("folder") + folder("other", 'prefix = "deep/"\n') + folder("other"),
-         ":11: folder 1: in.md: the path of page 2", ":16: folder 3: in.md: the path of page 2", by="config: in.md twice\n")
+         by="cannot read folder/nowhere")
+    told("a page's path", GOOD.replace("a.md", "in.md") + folder("folder"), ":8: folder 1: in.md: the path of page 1", by="config: in.md twice")
+    told("a folder's path", GOOD + folder("folder") + folder("other"), ":10: folder 2: in.md: a page of folder 1", by="config: in.md twice")
+    told("two of them", GOOD + PAGE.replace("a.md", "in.md") + folder("folder") + folder("other", 'prefix = "deep"\n') + folder("other"),
+         ":11: folder 1: in.md: the path of page 2", ":16: folder 3: in.md: the path of page 2", by="config: in.md twice")
     told("a page of that name", GOOD.replace("a.md", "c.png") + folder("media", "media = true\n"), ":8: folder 1: c.png: the path of page 1",
-         ":8: folder 1: warning: no page", by="config: c.png twice\n")
+         ":8: folder 1: warning: no page", by="config: c.png twice")
     told("a medium of that name", GOOD + folder("media", "media = true\n") + folder("more", 'media = ["png"]\n'),
          ":11: folder 2: c.png: a page of folder 1", ":8: folder 1: warning: no page", ":11: folder 2: warning: no page",
-         by="config: c.png twice\n")
+         by="config: c.png twice")
     told("no page", GOOD + folder("media"), ":8: folder 1: warning: no page")
     rows = "".join(f'[[page]]\npath = "{i}"\ntext = ""\n' for i in range(10_000))
     told("many pages", READER + rows)
@@ -216,7 +218,7 @@ def files_of_folders():
          ":30005: page 10001 (5): warning: the path of page 6, which this one covers")
     told("more pages", READER + rows + PAGE, ": more than 10000 pages", by="refused")
     told("more by a folder", READER + rows + folder("folder"), ":30005: folder 1: cannot read folder/in.md: more than 10000 pages",
-         ":30005: folder 1: warning: no page", by="cannot read folder/in.md: more than 10000 pages\n")
+         ":30005: folder 1: warning: no page", by="cannot read folder/in.md: more than 10000 pages")
 
 
 # journals over GOOD, each with what is told of it, and what `listen` stops with
@@ -225,8 +227,8 @@ JOURNALS = {"none": ([], [], ""), "another page": ([PUT_B], [], ""), "the same":
             "another text": ([b"put a.md - B\n"], [EDITED], ""), "other groups": ([b"put a.md team A\n"], [EDITED], ""),
             "moved": ([PUT_B, b"move a.md c.md\n"], [EDITED], ""), "removed": ([b"remove a.md\n"], [EDITED], ""),
             "back again": ([b"put a.md - B\n", b"put a.md - A\n"], [], ""),
-            "no edit": ([PUT_B, b"connect\n"], [": bad journal record 2"], "bad journal record 2\n"),
-            "refused": ([PUT_B, PUT_B + b"move b.md a.md\n"], [": journal record 2 refused, line 2"], "journal record 2 refused, line 2\n")}
+            "no edit": ([PUT_B, b"connect\n"], [": bad journal record 2"], "bad journal record 2"),
+            "refused": ([PUT_B, PUT_B + b"move b.md a.md\n"], [": journal record 2 refused, line 2"], "journal record 2 refused, line 2")}
 
 
 def journal_told(name, journal, lines, by):
@@ -237,7 +239,7 @@ def journal_told(name, journal, lines, by):
     scene.check(f"journal: {name}", (found.stdout, found.returncode, found.stderr) == wanted, f"wanted {wanted}, found {found}")
     scene.check(f"journal: {name}: as it was", journal is None or got("kept") == journal)
     said, taken = listened("--journal", "kept")
-    scene.check(f"journal: {name}: listen", (said, taken) == (f"docs_server: {by}", False) if faults else taken, said)
+    scene.check(f"journal: {name}: listen", (said, taken) == (f"docs_server: {by}\n", False) if faults else taken, said)
 
 
 def journals():
@@ -249,15 +251,15 @@ def journals():
             found = ran(["lint", "site.toml", "--journal", "kept"])
             scene.check(f"journal: {name}: while a server has it", found.stdout.decode() == "".join(f"site.toml{it}\n" for it in lines), found)
         journal_told(name, got("kept"), lines, by)
-    for name, journal, lines, by in (("damaged", journal_of([PUT_B])[:-1], [": journal record 2"], "journal record 2\n"),
-                                     ("torn", journal_of([PUT_B]) + b"torn", [], ""), ("foreign", b"none", [": no journal"], "no journal\n")):
+    for name, journal, lines, by in (("damaged", journal_of([PUT_B])[:-1], [": journal record 2"], "journal record 2"),
+                                     ("torn", journal_of([PUT_B]) + b"torn", [], ""), ("foreign", b"none", [": no journal"], "no journal")):
         put("kept", journal)
         journal_told(name, journal, lines, by)
     os.remove("kept")
     journal_told("absent", None, [": warning: no journal yet"], "")
     os.remove("kept")
     os.mkdir("kept")
-    journal_told("a folder", None, [": cannot open journal"], "cannot open journal\n")
+    journal_told("a folder", None, [": cannot open journal"], "cannot open journal")
     os.rmdir("kept")
     # a document's fault, or a file's, is told alone
     for text in (GOOD + "[[reader]]\n", GOOD + folder("nowhere")):
