@@ -1,4 +1,4 @@
-"""Tries what stops `listen` and `compact` before they do anything, and a journal that loses its name while `listen` runs, by the line and the status that they end with: each fault alone, and
+"""Tries what stops `listen` and `compact` before they do anything, and a journal that loses its name while `listen` runs, by the lines and the status that they end with: each fault alone, and
 with the next ones, of which the earlier one is told. No fault changes a journal. What is wanted is worked out from docs/RUNNING.md; what
 stops all commands alike is tried by scripts/site/faults.py, and each way to damage a journal by scripts/listen/damage.py.
 
@@ -6,7 +6,7 @@ stops all commands alike is tried by scripts/site/faults.py, and each way to dam
 
 Builds nothing. Needs python3. Half a minute.
 """
-import fcntl, os, resource, socket, subprocess, sys
+import fcntl, os, re, resource, socket, subprocess, sys
 sys.path.insert(1, os.path.dirname(__file__) + "/../lib")
 from scene import HOST, OWNER, Client, Scene, got, put
 from journals import is_opened, written
@@ -30,20 +30,28 @@ USAGES = ((["listen"], ()), (["listen", "good.toml"], ()), (["listen", "good.tom
           (["compact", "good.toml", "--journal"], ("--journal needs a file",)),
           (["compact", "good.toml", "--journal", "good", "x"], ("unknown option: x",)),
           (["compact", "good.toml", "--log", "good"], ("unknown option: --log",)), (["folders"], ()), (["folders", "good.toml", "x"], ()))
+# what is told above the line that stops it, where the document is refused; the first is the TOML reader's
+ABOVE = {"no.toml": r"no\.toml:1:4: \S.*\n",
+         **{f"{name}.toml": re.escape(f"{name}.toml{told}\n") for name, told in (
+             ("bounds", ": [listen]: `connections` must be an integer from 1 to 65535"),
+             ("both", ": [listen]: `idle_seconds` must be an integer from 1 to 86400"),
+             ("on_bad", ":7: folder 1: `on_bad` must be a string"), ("except", ":7: folder 1: `except` is bad"))}}
 NEW = "docs_server: new journal kept\n"
 MOVED = "docs_server: journal moved\n"
 NO_ADDRESSES = ("", HOST, "localhost", "localhost:", ":80", f"{HOST}:", f"{HOST}:65536", "256.0.0.1:80", "::1:80")
 
 
 def stops(words, *lines, stdout=subprocess.DEVNULL, limit=None):
-    """It ends with status 2 and these lines, and prints nothing else."""
+    """It ends with status 2 and these lines, below the faults of a document that is refused, and prints nothing else."""
     try:
         done = subprocess.run([scene.program, *words], stdin=subprocess.DEVNULL, stdout=stdout, stderr=subprocess.PIPE, timeout=20,
                               preexec_fn=limit)
     except subprocess.TimeoutExpired:
         return scene.check(" ".join(words), False, f"it goes on, and isn't stopped as {lines}")
-    found = done.returncode, done.stderr.decode()
-    return scene.check(" ".join(words), found == (2, "".join(f"docs_server: {line}\n" for line in lines)), f"{found}, wanted {lines}")
+    above = ABOVE.get(words[1], "") if lines[-1].startswith("config") else ""
+    wanted = above + "".join(re.escape(f"docs_server: {line}\n") for line in lines)
+    found = done.stderr.decode()
+    return scene.check(" ".join(words), done.returncode == 2 and re.fullmatch(wanted, found), f"{done.returncode}, {found!r}, wanted {wanted!r}")
 
 
 def damaged():

@@ -22,12 +22,15 @@ def config(text):
 
 
 def refused(name, *parts, journal=None):
-    """It ends with status 2 and one line, in which each of these stands."""
+    """It ends with status 2 and a line in which each of these stands; above it are the faults of a document that is refused."""
     try:
         server = scene.listen("site.toml", journal=journal)
     except Refused as found:
-        said = found.said.startswith("docs_server: ") and found.said.count("\n") == 1 and all(part in found.said for part in parts)
-        return scene.check(name, found.status == 2 and said, found)
+        *above, line = found.said.splitlines() or [""]
+        is_of_document = line.startswith("docs_server: config") and not line.endswith(" twice")
+        said = line.startswith("docs_server: ") and found.said.endswith("\n") and all(part in line + "\n" for part in parts)
+        told = bool(above) == is_of_document and all(it.startswith("site.toml:") for it in above)
+        return scene.check(name, found.status == 2 and said and told, found)
     server.kill()
     return scene.check(name, False, "it isn't refused")
 

@@ -113,7 +113,7 @@ pub fn read_all_folders<R: AllocGlobal + Clone + Drop + Eprint + Files>(
     read_folders(rt, heap, rows, folders.get(), bounds.media_bytes, true)
 }
 
-/// The configuration of this name, with the files that it names. What is wrong with its document is printed.
+/// The configuration of this name, with the files that it names.
 fn open<R: AllocGlobal + Eprint + Files>(
     rt: &R,
     heap: Heap,
@@ -122,10 +122,24 @@ fn open<R: AllocGlobal + Eprint + Files>(
     ensures { IfOk result (λ opened. IsOwn opened.site.pages.config) }
 {
     let text = read_file(rt, heap, name)?;
-    match written_of(heap, &text) {
-        Ok(written) => opened_of(rt, heap, written),
+    let written = written_or_told(rt, heap, name, &text)?;
+    let opened = opened_of(rt, heap, written)?;
+    Ok(opened)
+}
+
+/// What the text of a configuration says of a server that runs. Where it is refused its faults are printed.
+fn written_or_told<P: Eprint>(
+    rt: &P,
+    heap: Heap,
+    name: &str,
+    text: &str,
+) -> Result<Written, ListenFault>
+    ensures { IfOk result (λ written. IsOwn written.config) }
+{
+    match written_of(heap, text) {
+        Ok(written) => Ok(written),
         Err(fault) => {
-            tell_faults(rt, heap, name, &text);
+            tell_faults(rt, heap, name, text);
             Err(fault)
         }
     }

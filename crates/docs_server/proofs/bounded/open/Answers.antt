@@ -1,11 +1,6 @@
-use Rattle.std.proofs.Common.{ap}
-use Rattle.toml.specs.View.{table_view}
+use Rattle.std.proofs.Common.{subst, sym}
+use Rattle.docs_server.specs.Listening.{IsOwn}
 use Rattle.docs_server.proofs.bounded.open.Goals as goal
 
 pub returns : goal.returns
-returns g c = record {
-  document = table_view c.in_ok-document.document.table;
-  own = c.in_ok-config.config;
-  is_own = c.in_ok-config.ensures;
-  pages = ap (λ config. config.pages) c.in_ok-site_of.ensures;
-}
+returns g c = subst IsOwn (sym c.in_ok-opened.ensures) c.in_ok-written.ensures

@@ -4,8 +4,8 @@ use Rattle.docs_server.proofs.bounded.read_bounded.Goals as goal
 
 pub returns : goal.returns
 returns g c = record {
-  document = c.in_ok-site.ensures.document;
-  own = c.in_ok-site.ensures.own;
-  is_own = c.in_ok-site.ensures.is_own;
-  others = subst (λ rows. HasOthers rows c.in_ok-pages.field-0.pages.config.pages) c.in_ok-site.ensures.pages c.in_ok-pages.ensures;
+  document = c.in_ok-opened.ensures.document;
+  own = c.in_ok-opened.ensures.own;
+  is_own = c.in_ok-opened.ensures.is_own;
+  others = subst (λ rows. HasOthers rows c.in_ok-bounded.bounded.site.pages.config.pages) c.in_ok-opened.ensures.pages c.in_ok-bounded.ensures;
 }
