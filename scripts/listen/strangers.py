@@ -5,11 +5,12 @@
 - nginx ends who sends no head, and who sends one byte of it now and then, and who stops within a body; docs_server never sees one of them;
 - where fail2ban is there, its filter nginx-http-auth knows each wrong password in nginx's log of errors;
 - nginx and haproxy answer `Expect: 100-continue` by themselves, and haproxy ends who sends no head;
-- without a proxy docs_server ends who is silent, and not who sends a byte now and then.
+- without a proxy docs_server ends strangers, silent or not, and a slow request; who was answered goes on;
+- behind 1,024 strangers, silent, with a byte a second, or with wrong tokens, a reader is answered within 3 seconds.
 
     python3 scripts/listen/strangers.py PROGRAM
 
-Builds nothing. Needs python3, openssl, and nginx, haproxy and curl, which it has installed where they lack. A minute.
+Builds nothing. Needs python3, openssl, and nginx, haproxy and curl, which it has installed where they lack. Two minutes.
 """
 import base64, os, re, shutil, socket, ssl, subprocess, sys, threading, time
 sys.path.insert(1, os.path.dirname(__file__) + "/../lib")
@@ -19,6 +20,8 @@ from scene import HOST, Scene, got, put
 scene = Scene(seconds=240, needs=["nginx=nginx-light", "haproxy", "curl", "openssl"], at_top=True)
 SITE = """[listen]
 idle_seconds = 4
+stranger_seconds = 2
+request_seconds = 6
 
 [[reader]]
 token = "tok-owner"
@@ -168,11 +171,72 @@ def check_expect(name, peer, login, answers):
     scene.check(f"{name}: the reply behind it", last in (201, 204), last)
 
 
+CROWD = 1024
+
+
+def crowd_comes(port, sent):
+    """So many strangers more than there are places for, each with some bytes; and who keeps on sending a byte a second, until it is told."""
+    peers, over = [], threading.Event()
+    for _ in range(CROWD + 200):
+        peer = socket.socket()
+        peer.setblocking(False)
+        peer.connect_ex((HOST, port))
+        peers.append(peer)
+    time.sleep(0.3)
+
+    def keep_sending():
+        at = 0
+        while not over.is_set():
+            for peer in peers:
+                try:
+                    peer.send(sent[at:] if at == 0 and sent.endswith(b"\r\n\r\n") else sent[at:at + 1])
+                except OSError:
+                    pass
+            at += 1
+            over.wait(1)
+
+    sending = threading.Thread(target=keep_sending)
+    sending.start()
+    return peers, over, sending
+
+
+def check_crowd(known, port, what, sent):
+    """A reader comes behind a crowd, and one who was there before goes on."""
+    peers, over, sending = crowd_comes(port, sent)
+    begin = time.monotonic()
+    reader = Peer(port, False)
+    reader.send("GET /page/index.md HTTP/1.1", "Authorization: Bearer tok-owner")
+    code, took = reader.code(), time.monotonic() - begin
+    print(f"behind {CROWD + 200} strangers, {what}: answered after {took:.2f} s", flush=True)
+    scene.check(f"a reader behind strangers, {what}", code == 200 and took < 3, (code, took))
+    known.send("GET /page/index.md HTTP/1.1", "Authorization: Bearer tok-owner")
+    scene.check(f"one who was there before, {what}", known.code() == 200)
+    over.set()
+    sending.join()
+    for peer in peers:
+        peer.close()
+    time.sleep(2)
+
+
+def check_crowds(server):
+    known = Peer(server.port, False)
+    known.send("GET /page/index.md HTTP/1.1", "Authorization: Bearer tok-owner")
+    scene.check("a reader before the strangers", known.code() == 200)
+    wrong = b"GET /page/index.md HTTP/1.1\r\nHost: docs\r\nAuthorization: Bearer wrong\r\n\r\n"
+    for what, sent in (("silent", b""), ("a byte a second", wrong[:-4]), ("wrong tokens", wrong)):
+        check_crowd(known, server.port, what, sent)
+    time.sleep(15)
+    known.send("GET /page/index.md HTTP/1.1", "Authorization: Bearer tok-owner")
+    scene.check("a known one is silent for 15 seconds, and goes on", known.code() == 200)
+
+
 def main():
     keys(scene)
     put(f"{scene.scratch}/site.toml", SITE)
     log = f"{scene.scratch}/errors"
-    server, other = scene.listen(f"{scene.scratch}/site.toml", options=["--log"]), scene.listen(f"{scene.scratch}/site.toml")
+    put(f"{scene.scratch}/plain.toml", SITE[SITE.index("[[reader]]"):])
+    server, other, plain = (scene.listen(f"{scene.scratch}/{name}.toml", options=options)
+                            for name, options in (("site", ["--log"]), ("site", []), ("plain", [])))
     nginx = Nginx(scene, server.port, f"error_log {log};", limited=True)
     haproxy = Haproxy(scene, other.port, other.port)
     bearer = "Authorization: Bearer tok-owner"
@@ -188,14 +252,19 @@ def main():
         check_expect("haproxy", Peer(haproxy.port, False), bearer, True)
         check_expect("no proxy", Peer(other.port, False), bearer, False)
         ways = (("nginx", nginx.port, True, (8, 12), (8, 12)), ("haproxy", haproxy.port, False, (8, 12), (8, 12)),
-                ("no proxy", other.port, False, (3, 6), None))
+                ("no proxy", other.port, False, (2, 4), (2, 4)))
         head = b"GET /page/index.md HTTP/1.1\r\n"
+        slow = Peer(other.port, False)
+        slow.send("GET /page/index.md HTTP/1.1", bearer)
+        scene.check("no proxy: a known one", slow.code() == 200)
         check_silent([(f"{name}: {what}", Peer(port, secure), sent, bounds) for name, port, secure, *each in ways
-                      for what, sent, bounds in zip(("no head", "a byte a second"), (b"", head), each)])
+                      for what, sent, bounds in zip(("no head", "a byte a second"), (b"", head), each)]
+                     + [("no proxy: a known one, a byte a second", slow, head, (6, 8))])
+        check_crowds(plain)
     finally:
         nginx.ends()
         haproxy.ends()
-    scene.check("docs_server ends in order", server.end() == 0 and other.end() == 0)
+    scene.check("docs_server ends in order", server.end() == 0 and other.end() == 0 and plain.end() == 0)
 
 
 scene.run(main)

@@ -20,18 +20,18 @@ use Rattle.doc_server_config.specs.Readmes.{index_move}
 -- ---- what is read
 
 -- nothing is said, or nothing that is `listen`'s concern: 1,024 connections, 30 seconds, no folder
-empty_text : listening_of (codes "") ≡ Ok (record { bounds = record { connections = 1024; idle_seconds = 30; media_bytes = 67108864 }; folders = [] })
+empty_text : listening_of (codes "") ≡ Ok (record { bounds = record { connections = 1024; idle_seconds = 30; media_bytes = 67108864; stranger_seconds = 5; request_seconds = 60 }; folders = [] })
 unfolding toml_on_literals
 empty_text = refl
 
 other_keys_of_the_document : listening_of (codes "cache = 0\npage = 1\n[listen]\n")
-    ≡ Ok (record { bounds = record { connections = 1024; idle_seconds = 30; media_bytes = 67108864 }; folders = [] })
+    ≡ Ok (record { bounds = record { connections = 1024; idle_seconds = 30; media_bytes = 67108864; stranger_seconds = 5; request_seconds = 60 }; folders = [] })
 unfolding toml_on_literals
 other_keys_of_the_document = refl
 
-all_keys : listening_of (codes "[[folder]]\npath = \"../d\"\nprefix = \"g/h\"\ngroups = [\"b\", \"a\"]\nexcept = [\"x/y\", \".z\"]\nmedia = [\"png\", \"jpeg\", \"png\"]\nnames = \"nfc\"\nreadme = true\non_bad = \"skip\"\n[[folder]]\npath = \"\"\n[listen]\nconnections = 1\nidle_seconds = 86400\nmedia_bytes = 1073741824\n")
+all_keys : listening_of (codes "[[folder]]\npath = \"../d\"\nprefix = \"g/h\"\ngroups = [\"b\", \"a\"]\nexcept = [\"x/y\", \".z\"]\nmedia = [\"png\", \"jpeg\", \"png\"]\nnames = \"nfc\"\nreadme = true\non_bad = \"skip\"\n[[folder]]\npath = \"\"\n[listen]\nconnections = 1\nidle_seconds = 86400\nmedia_bytes = 1073741824\nrequest_seconds = 1\nstranger_seconds = 86400\n")
     ≡ Ok (record {
-      bounds = record { connections = 1; idle_seconds = 86400; media_bytes = 1073741824 };
+      bounds = record { connections = 1; idle_seconds = 86400; media_bytes = 1073741824; stranger_seconds = 86400; request_seconds = 1 };
       folders = record {
         file = codes "../d";
         prefix = codes "g/h";
@@ -245,3 +245,12 @@ two_folders = refl
 
 rows_alone : first_overlap (codes "a.md" ∷ codes "a.md" ∷ []) (codes "b.md" ∷ []) ≡ None
 rows_alone = refl
+
+-- seconds of strangers and of requests, which come behind the others
+no_seconds_of_strangers : listening_of (codes "[listen]\nrequest_seconds = 0\nstranger_seconds = 0\n") ≡ Err BadStrangerSeconds
+unfolding toml_on_literals
+no_seconds_of_strangers = refl
+
+a_day_and_a_second : listening_of (codes "listen = { request_seconds = 86401, stranger_seconds = 1 }") ≡ Err BadRequestSeconds
+unfolding toml_on_literals
+a_day_and_a_second = refl

@@ -10,6 +10,15 @@ use crate::listening::ListeningError;
 use crate::table::{has_only, value_at};
 use toml::{Table, Value};
 
+/// The keys of the table `listen`.
+const KEYS: [&str; 5] = [
+    "connections",
+    "idle_seconds",
+    "media_bytes",
+    "stranger_seconds",
+    "request_seconds",
+];
+
 /// How many connections stand at most, where a configuration doesn't say.
 const CONNECTIONS: u32 = 1_024;
 
@@ -18,6 +27,12 @@ const IDLE_SECONDS: u32 = 30;
 
 /// How many bytes the media of folders may have together, where a configuration doesn't say.
 const MEDIA_BYTES: u32 = 67_108_864;
+
+/// For how many seconds a peer may be a stranger, where a configuration doesn't say.
+const STRANGER_SECONDS: u32 = 5;
+
+/// How many seconds a request may take to come, where a configuration doesn't say.
+const REQUEST_SECONDS: u32 = 60;
 
 /// How many connections may be asked for.
 const MOST_CONNECTIONS: u32 = 65_535;
@@ -37,6 +52,10 @@ pub struct Bounds {
     pub idle_seconds: u64,
     /// How many bytes the media of folders have together at most.
     pub media_bytes: usize,
+    /// After how many seconds a connection ends on which nothing was answered but what whoever asks is given.
+    pub stranger_seconds: u64,
+    /// After how many seconds a connection ends whose request isn't whole.
+    pub request_seconds: u64,
 }
 
 /// The bounds of a document, or the first refusal.
@@ -48,6 +67,8 @@ pub(crate) fn bounds_in(document: &Table) -> Result<Bounds, ListeningError>
             connections: CONNECTIONS as usize,
             idle_seconds: IDLE_SECONDS as u64,
             media_bytes: MEDIA_BYTES as usize,
+            stranger_seconds: STRANGER_SECONDS as u64,
+            request_seconds: REQUEST_SECONDS as u64,
         });
     };
     match value.as_table() {
@@ -60,7 +81,7 @@ pub(crate) fn bounds_in(document: &Table) -> Result<Bounds, ListeningError>
 fn bounds_of(table: &Table) -> Result<Bounds, ListeningError>
     ensures { result ≡ bounds_of (table_view table.now) }
 {
-    if !has_only(table, &["connections", "idle_seconds", "media_bytes"]) {
+    if !has_only(table, &KEYS) {
         return Err(ListeningError::BadListen);
     }
     let Some(connections) = number_at(table, "connections", MOST_CONNECTIONS, CONNECTIONS) else {
@@ -72,10 +93,21 @@ fn bounds_of(table: &Table) -> Result<Bounds, ListeningError>
     let Some(media_bytes) = number_at(table, "media_bytes", MOST_MEDIA_BYTES, MEDIA_BYTES) else {
         return Err(ListeningError::BadMediaBytes);
     };
+    let Some(stranger_seconds) =
+        number_at(table, "stranger_seconds", MOST_SECONDS, STRANGER_SECONDS)
+    else {
+        return Err(ListeningError::BadStrangerSeconds);
+    };
+    let Some(request_seconds) = number_at(table, "request_seconds", MOST_SECONDS, REQUEST_SECONDS)
+    else {
+        return Err(ListeningError::BadRequestSeconds);
+    };
     Ok(Bounds {
         connections: connections as usize,
         idle_seconds: idle_seconds as u64,
         media_bytes: media_bytes as usize,
+        stranger_seconds: stranger_seconds as u64,
+        request_seconds: request_seconds as u64,
     })
 }
 

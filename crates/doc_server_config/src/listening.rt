@@ -20,7 +20,8 @@ pub enum ListeningError {
     /// The text is no TOML document.
     #[error("no TOML")]
     BadToml,
-    /// `listen` is no table, or has a key other than `connections`, `idle_seconds` and `media_bytes`.
+    /// `listen` is no table, or has a key other than `connections`, `idle_seconds`, `media_bytes`, `stranger_seconds` and
+    /// `request_seconds`.
     #[error("`listen` is bad")]
     BadListen,
     /// `connections` is no integer from 1 to 65,535.
@@ -32,6 +33,12 @@ pub enum ListeningError {
     /// `media_bytes` is no integer from 1 to 1,073,741,824.
     #[error("`media_bytes` is bad")]
     BadMediaBytes,
+    /// `stranger_seconds` is no integer from 1 to 86,400.
+    #[error("`stranger_seconds` is bad")]
+    BadStrangerSeconds,
+    /// `request_seconds` is no integer from 1 to 86,400.
+    #[error("`request_seconds` is bad")]
+    BadRequestSeconds,
     /// `folder` is no array of tables.
     #[error("`folder` is bad")]
     BadFolders,
@@ -64,8 +71,8 @@ pub struct Listening {
 
 impl Listening {
     /// What `listen` goes by, of a TOML 1.1 document: its table `listen` with `connections` (1 to 65,535,
-    /// else 1,024), `idle_seconds` (1 to 86,400, else 30) and `media_bytes` (1 to 1,073,741,824, else
-    /// 67,108,864), and its array `folder`, each with a `path`, a `prefix` (else none), `groups` (an array
+    /// else 1,024), `idle_seconds` (1 to 86,400, else 30), `media_bytes` (1 to 1,073,741,824, else
+    /// 67,108,864), `stranger_seconds` (1 to 86,400, else 5) and `request_seconds` (1 to 86,400, else 60), and its array `folder`, each with a `path`, a `prefix` (else none), `groups` (an array
     /// of names, else none), `except` (an array of names of folders in it, else none), and what says how
     /// its files are taken ([`Folder`]). These tables have no other keys; those of the document are not its
     /// concern. Refusals come in the order of [`ListeningError`], but that `Memory` may be answered

@@ -48,7 +48,7 @@ pub fn host_site<H: Host, R: Renderer + Drop, C: Clock, W: Watch + Drop>(
     ensures bound { IfOk result (λ ended. map.len ended.server.peers ≤ terms.now.connections) }
 {
     let saved = saved_hub(heap, host, hub, terms.journal)?;
-    let server = Server::new(rt, heap, terms.connections, terms.idle_seconds)?;
+    let server = Server::new(rt, heap, terms.connections, terms.limits)?;
     let net = bound(heap, host)?;
     match watch {
         Some(watch) => Ok(serve(rt, server, Watched::new(heap, net, watch), saved).unwatched()),

@@ -1,5 +1,7 @@
 //! How a site is served.
 
+use doc_server_serving::limits::Limits;
+
 /// How a site is served.
 #[derive(Clone, Copy, Drop)]
 pub struct Terms<'a> {
@@ -7,6 +9,6 @@ pub struct Terms<'a> {
     pub journal: Option<&'a str>,
     /// How many connections there are at most at once.
     pub connections: usize,
-    /// After how many seconds of silence a connection ends.
-    pub idle_seconds: u64,
+    /// After how long connections end.
+    pub limits: Limits,
 }

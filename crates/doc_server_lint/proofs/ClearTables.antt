@@ -11,7 +11,7 @@ use Rattle.doc_store_readers.specs.Readers.{groups_at}
 use Rattle.doc_server_config.specs.declared.browsing.BrowseError.{BrowseError}
 use Rattle.doc_server_config.specs.declared.browsing.BrowseError.TheVariants.{BadBrowse}
 use Rattle.doc_server_config.specs.declared.listening.ListeningError.TheVariants.{BadListen}
-use Rattle.doc_server_config.specs.Bounds.{bounds_at, bounds_of, bounds_with, connections_at, idle_seconds_at, media_bytes_at}
+use Rattle.doc_server_config.specs.Bounds.{bounds_at, bounds_of, bounds_with, connections_at, media_bytes_at, seconds_at}
 use Rattle.doc_server_config.specs.Browsing.{browse_at, browse_of_table, browse_with, editing_at, good_language, good_login, good_title}
 use Rattle.doc_server_config.specs.Browsing.{guest_at, home_at, language_at, login_at, some_browse, title_at}
 use Rattle.doc_server_config.specs.Keys.{has_only, keys_in}
@@ -84,19 +84,22 @@ connections_good : (held : Option Data) → allows (key_fault (rule.Integer 6553
 connections_good None = refl
 connections_good (Some value) = told_allows _ _ refl
 
-idle_seconds_good : (held : Option Data) → allows (key_fault (rule.Integer 86400) held) ≡ is_some (idle_seconds_at held)
-idle_seconds_good None = refl
-idle_seconds_good (Some value) = told_allows _ _ refl
+seconds_good : (missing : ℕ) (held : Option Data) → allows (key_fault (rule.Integer 86400) held) ≡ is_some (seconds_at missing held)
+seconds_good missing None = refl
+seconds_good missing (Some value) = told_allows _ _ refl
 
 media_bytes_good : (held : Option Data) → allows (key_fault (rule.Integer 1073741824) held) ≡ is_some (media_bytes_at held)
 media_bytes_good None = refl
 media_bytes_good (Some value) = told_allows _ _ refl
 
-bounds_parts : (a b c : Option ℕ) → is_ok (bounds_with a b c) ≡ (is_some a && (is_some b && (is_some c && true)))
-bounds_parts None b c = refl
-bounds_parts (Some a) None c = refl
-bounds_parts (Some a) (Some b) None = refl
-bounds_parts (Some a) (Some b) (Some c) = refl
+bounds_parts : (a b c d e : Option ℕ)
+    → is_ok (bounds_with a b c d e) ≡ (is_some a && (is_some b && (is_some c && (is_some d && (is_some e && true)))))
+bounds_parts None b c d e = refl
+bounds_parts (Some a) None c d e = refl
+bounds_parts (Some a) (Some b) None d e = refl
+bounds_parts (Some a) (Some b) (Some c) None e = refl
+bounds_parts (Some a) (Some b) (Some c) (Some d) None = refl
+bounds_parts (Some a) (Some b) (Some c) (Some d) (Some e) = refl
 
 ok_where_only : {A E : Type 0} (b : Bool) (r : Result A E) (e : E) → is_ok (if b then r else Err e) ≡ (b && is_ok r)
 ok_where_only true r e = refl
@@ -107,12 +110,15 @@ listen_table : (held : Members) → (only (names_of listen_keys) (Some held) && 
 listen_table held =
     let at : List ℕ → Option Data = λ key. get_member key held in
     let connections = connections_good (at (codes "connections")) in
-    let idle_seconds = idle_seconds_good (at (codes "idle_seconds")) in
-    let media_bytes = media_bytes_good (at (codes "media_bytes")) in
-    (λ i. has_only (names_of listen_keys) held && (connections i && (idle_seconds i && (media_bytes i && true))))
+    let idle = seconds_good 30 (at (codes "idle_seconds")) in
+    let media = media_bytes_good (at (codes "media_bytes")) in
+    let stranger = seconds_good 5 (at (codes "stranger_seconds")) in
+    let request = seconds_good 60 (at (codes "request_seconds")) in
+    (λ i. has_only (names_of listen_keys) held && (connections i && (idle i && (media i && (stranger i && (request i && true))))))
     ∙ ap (λ b. has_only (names_of listen_keys) held && b)
-    (sym (bounds_parts (connections_at (at (codes "connections"))) (idle_seconds_at (at (codes "idle_seconds")))
-    (media_bytes_at (at (codes "media_bytes")))))
+    (sym (bounds_parts (connections_at (at (codes "connections"))) (seconds_at 30 (at (codes "idle_seconds")))
+    (media_bytes_at (at (codes "media_bytes"))) (seconds_at 5 (at (codes "stranger_seconds")))
+    (seconds_at 60 (at (codes "request_seconds")))))
     ∙ sym (ok_where_only (has_only (names_of listen_keys) held) _ BadListen)
 
 pub listen_clear : (held : Option Data)

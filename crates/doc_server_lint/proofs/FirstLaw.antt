@@ -17,7 +17,7 @@ use Rattle.doc_server_config.specs.declared.listening.ListeningError.{ListeningE
 use Rattle.doc_server_config.specs.declared.listening.ListeningError.TheVariants.{BadFolder, BadListen}
 use Rattle.doc_server_config.specs.declared.page_row.PageRow.{PageRow}
 use Rattle.doc_server_config.specs.Bounds.{bounds_at, bounds_in, bounds_of_table, bounds_with, connections_at, idle_seconds_at}
-use Rattle.doc_server_config.specs.Bounds.{media_bytes_at}
+use Rattle.doc_server_config.specs.Bounds.{media_bytes_at, request_seconds_at, stranger_seconds_at}
 use Rattle.doc_server_config.specs.Configurations.{config_of_document, with_pages, with_readers, with_settings}
 use Rattle.doc_server_config.specs.Folders.{folder_of, folders_from}
 use Rattle.doc_server_config.specs.Listenings.{listening_of_document, with_bounds, with_folders, with_tables}
@@ -123,16 +123,34 @@ bad_folder_told found n (item row rest) m fault is =
     by (Ok folder) eq more is = behind (ap is_ok eq) (more folder is)
 
 -- a table of bounds isn't refused for a folder
-bounds_parts : (a b c : Option ℕ) (n : ℕ) (fault : FolderFault) → bounds_with a b c ≡ Err (BadFolder n fault) → ⊥
-bounds_parts None b c n fault is = cc
-bounds_parts (Some a) None c n fault is = cc
-bounds_parts (Some a) (Some b) None n fault is = cc
-bounds_parts (Some a) (Some b) (Some c) n fault is = cc
+bounds_parts : (a b c d e : Option ℕ) (n : ℕ) (fault : FolderFault) → bounds_with a b c d e ≡ Err (BadFolder n fault) → ⊥
+bounds_parts None b c d e n fault is = cc
+bounds_parts (Some a) None c d e n fault is = cc
+bounds_parts (Some a) (Some b) None d e n fault is = cc
+bounds_parts (Some a) (Some b) (Some c) None e n fault is = cc
+bounds_parts (Some a) (Some b) (Some c) (Some d) None n fault is = cc
+bounds_parts (Some a) (Some b) (Some c) (Some d) (Some e) n fault is = cc
 
 bounds_table : (only : Bool) (bounds : Result Bounds ListeningError) (n : ℕ) (fault : FolderFault)
     → (bounds ≡ Err (BadFolder n fault) → ⊥) → (if only then bounds else Err BadListen) ≡ Err (BadFolder n fault) → ⊥
 bounds_table true bounds n fault never is = never is
 bounds_table false bounds n fault never is = cc
+
+-- what a table holds of the bounds
+abbrev connections : Members → Option ℕ
+connections table = connections_at (get_member (codes "connections") table)
+
+abbrev idle : Members → Option ℕ
+idle table = idle_seconds_at (get_member (codes "idle_seconds") table)
+
+abbrev media : Members → Option ℕ
+media table = media_bytes_at (get_member (codes "media_bytes") table)
+
+abbrev stranger : Members → Option ℕ
+stranger table = stranger_seconds_at (get_member (codes "stranger_seconds") table)
+
+abbrev request : Members → Option ℕ
+request table = request_seconds_at (get_member (codes "request_seconds") table)
 
 bounds_held : (held : Option Data) (n : ℕ) (fault : FolderFault) → bounds_at held ≡ Err (BadFolder n fault) → ⊥
 bounds_held None n fault is = cc
@@ -141,11 +159,11 @@ bounds_held (Some value) n fault is = by (as_table value) is
     by : (table : Option Members) → bounds_of_table table ≡ Err (BadFolder n fault) → ⊥
     by None is = cc
     by (Some table) is =
-        bounds_table (has_only (codes "connections" ∷ codes "idle_seconds" ∷ codes "media_bytes" ∷ []) table)
-        (bounds_with (connections_at (get_member (codes "connections") table)) (idle_seconds_at (get_member (codes "idle_seconds") table))
-        (media_bytes_at (get_member (codes "media_bytes") table))) n fault
-        (bounds_parts (connections_at (get_member (codes "connections") table)) (idle_seconds_at (get_member (codes "idle_seconds") table))
-        (media_bytes_at (get_member (codes "media_bytes") table)) n fault) is
+        bounds_table
+        (has_only
+        (codes "connections" ∷ codes "idle_seconds" ∷ codes "media_bytes" ∷ codes "stranger_seconds" ∷ codes "request_seconds" ∷ []) table)
+        (bounds_with (connections table) (idle table) (media table) (stranger table) (request table)) n fault
+        (bounds_parts (connections table) (idle table) (media table) (stranger table) (request table) n fault) is
 
 -- ---- the document
 

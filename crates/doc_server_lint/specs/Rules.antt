@@ -29,7 +29,8 @@ markdown_keys =
 
 abbrev pub listen_keys : Keys
 listen_keys =
-    (codes "connections", Integer 65535) ∷ (codes "idle_seconds", Integer 86400) ∷ (codes "media_bytes", Integer 1073741824) ∷ []
+    (codes "connections", Integer 65535) ∷ (codes "idle_seconds", Integer 86400) ∷ (codes "media_bytes", Integer 1073741824)
+    ∷ (codes "stranger_seconds", Integer 86400) ∷ (codes "request_seconds", Integer 86400) ∷ []
 
 abbrev pub browse_keys : Keys
 browse_keys =

@@ -78,6 +78,8 @@ pub(crate) const LISTEN_KEYS: &[(&str, Rule)] = &[
     ("connections", Rule::Integer(65_535)),
     ("idle_seconds", Rule::Integer(86_400)),
     ("media_bytes", Rule::Integer(1_073_741_824)),
+    ("stranger_seconds", Rule::Integer(86_400)),
+    ("request_seconds", Rule::Integer(86_400)),
 ];
 
 /// The keys of the table `browse`.

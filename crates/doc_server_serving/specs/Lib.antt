@@ -8,5 +8,6 @@ pub mod Servings
 pub mod Sharing
 pub mod Silences
 pub mod Sites
+pub mod Strangers
 pub mod Turns
 pub mod Wirings

@@ -6,9 +6,12 @@ ghost use Rattle.doc_server_serving.specs.Hearing.{Spares};
 ghost use Rattle.doc_server_serving.specs.Parts.{takes_part};
 ghost use Rattle.doc_server_serving.specs.Wirings.{ClosesBy, HandsOver, Lingers, Swept, new_peer, woken};
 
+use crate::limits::Limits;
 use crate::sending::send_replies;
 use crate::silence::Silence;
 use crate::stage::Stage;
+use crate::stranger::{Stranger, is_for_whoever};
+use crate::unfinished::Unfinished;
 use doc_page_parts::bytes::Bytes;
 use doc_page_parts::heap::Heap;
 use doc_server_network::came::Came;
@@ -29,6 +32,8 @@ pub struct Client {
     /// Whether memory was lacking for its last step: then its request waits for the next sweep.
     pub(crate) is_starved: bool,
     pub(crate) silence: Silence,
+    pub(crate) stranger: Stranger,
+    pub(crate) unfinished: Unfinished,
 }
 
 impl Model for Client {
@@ -63,6 +68,8 @@ impl Client {
             rests: true,
             is_starved: false,
             silence: Silence::new(),
+            stranger: Stranger::new(),
+            unfinished: Unfinished::new(),
         }
     }
 
@@ -131,6 +138,7 @@ impl Client {
             return;
         }
         let waiting = (self.replies.len(), self.sent);
+        let strange = self.strange_replies();
         match send_replies(id, net, permit, &mut self.replies, &mut self.sent) {
             Ok(true) => {}
             Ok(false) => self.rests = true,
@@ -139,6 +147,23 @@ impl Client {
         if waiting != (self.replies.len(), self.sent) {
             self.silence.hear();
         }
+        if self.replies.len() + strange < waiting.0 {
+            self.stranger.is_known = true;
+        }
+    }
+
+    /// How many replies wait before the first one that not whoever asks is given.
+    fn strange_replies(&self) -> usize
+        ensures { result ≤ deque_len self.now.replies.items }
+    {
+        let mut count = 0;
+        'replies: for reply in self.replies.iter() {
+            if !is_for_whoever(reply.get()) {
+                return count;
+            }
+            count += 1;
+        }
+        count
     }
 
     /// Ends its part in a turn. Behind its last reply it lingers. Where it waits for nothing but its part of a turn, it isn't its peer that is
@@ -212,13 +237,17 @@ impl Client {
         }
     }
 
-    /// A sweep: what was starved is tried again, and whoever was silent for too long is let go.
-    pub fn sweep(&mut self, idle_seconds: u64)
+    /// A sweep: what was starved is tried again, and who was silent for too long is let go, who is a stranger still, and whose request isn't
+    /// whole. Where there is a crowd strangers are let go sooner.
+    pub fn sweep(&mut self, limits: &Limits, is_crowded: bool)
         ensures swept { Swept self.old self.new }
         ensures fed { self.new.starves ≡ false }
     {
         self.is_starved = false;
-        if self.silence.sweep(idle_seconds) {
+        let is_silent = self.silence.sweep(limits.idle_seconds);
+        let is_strange = self.stranger.sweep(limits.stranger_seconds, is_crowded);
+        let is_late = self.unfinished.sweep(limits.request_seconds);
+        if is_silent || is_strange || is_late {
             self.stage = Stage::Over;
         }
     }

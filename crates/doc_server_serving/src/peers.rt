@@ -12,6 +12,7 @@ ghost use Rattle.doc_server_serving.specs.Sharing.{SharesTurn};
 ghost use Rattle.doc_server_serving.specs.Wirings.{AreWoken, Gives, IsFedAt, LingerAll, SweptAll, WokeAt, new_peer};
 
 use crate::client::Client;
+use crate::limits::Limits;
 use doc_page::renderer::Renderer;
 use doc_page_parts::heap::{BTreeMap, Heap, Vec};
 use doc_server_journal::device::Device;
@@ -225,25 +226,25 @@ impl Peers {
         client.finish(id, net, piece);
     }
 
-    /// A sweep of the clients of these numbers: those that were silent for so many seconds are to be let go.
-    pub fn sweep(&mut self, numbers: &[u64], idle_seconds: u64)
+    /// A sweep of the clients of these numbers: those whose time is are to be let go.
+    pub fn sweep(&mut self, numbers: &[u64], limits: &Limits, is_crowded: bool)
         ensures swept { SweptAll self.old self.new }
         ensures fed { (k : ℕ) → Contains numbers.now k → IsFedAt (map.get self.new k) }
     {
         'numbers: for id in numbers {
-            self.sweep_at(*id, idle_seconds);
+            self.sweep_at(*id, limits, is_crowded);
         }
     }
 
     /// A sweep of the client of this number, where there is one.
-    fn sweep_at(&mut self, id: u64, idle_seconds: u64)
+    fn sweep_at(&mut self, id: u64, limits: &Limits, is_crowded: bool)
         ensures swept { SweptAll self.old self.new }
         ensures fed { IsFedAt (map.get self.new id) }
     {
         let Some(client) = self.clients.get_mut(&id) else {
             return;
         };
-        client.sweep(idle_seconds);
+        client.sweep(limits, is_crowded);
     }
 
     /// Adds the numbers of all.

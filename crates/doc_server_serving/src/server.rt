@@ -19,6 +19,7 @@ ghost use Rattle.doc_store.specs.Store.{StoreState};
 use crate::door::Door;
 use crate::fault::ServeFault;
 use crate::letting_go::let_go;
+use crate::limits::Limits;
 use crate::named_file::NamedFile;
 use crate::peers::Peers;
 use crate::room::{growth, keep_room};
@@ -53,8 +54,7 @@ pub struct Server {
     heap: Heap,
     peers: Peers,
     door: Door,
-    /// After how many seconds of silence a connection ends.
-    idle_seconds: u64,
+    limits: Limits,
     /// The numbers of those that take part in the turn that runs.
     ready: Vec<u64>,
     /// The numbers of others, for a moment.
@@ -70,13 +70,12 @@ pub struct Server {
 }
 
 impl Server {
-    /// A server without clients, of which it has so many at most at once. Each of them ends after so many seconds of silence, counted in
-    /// sweeps.
+    /// A server without clients, of which it has so many at most at once.
     pub fn new<C: Clock>(
         rt: &C,
         heap: Heap,
         connections: usize,
-        idle_seconds: u64,
+        limits: Limits,
     ) -> Result<Server, ServeFault>
         ensures empty { IfOk result (λ server. server.peers ≡ map.empty) }
         ensures most { IfOk result (λ server. server.door.most ≡ connections) }
@@ -88,7 +87,7 @@ impl Server {
             heap,
             peers: Peers::new(heap),
             door: Door::new(connections),
-            idle_seconds,
+            limits,
             ready: Vec::new(heap),
             numbers: Vec::new(heap),
             piece: Vec::new(heap),
@@ -316,7 +315,9 @@ impl Server {
         self.door.wake();
         self.numbers.clear();
         self.peers.collect_all(&mut self.numbers)?;
-        self.peers.sweep(self.numbers.as_slice(), self.idle_seconds);
+        let is_crowded = self.peers.count() >= self.door.most;
+        self.peers
+            .sweep(self.numbers.as_slice(), &self.limits, is_crowded);
         self.goes_on = self.goes_on || self.peers.goes_on(self.numbers.as_slice());
         Ok(true)
     }

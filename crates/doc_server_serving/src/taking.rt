@@ -193,6 +193,7 @@ impl Client {
         match saved.step(ConnId(id)) {
             Ok(Step::Sent(reply)) => {
                 self.is_starved = false;
+                self.unfinished.answer();
                 let count = reply.get().len();
                 self.replies.push_back_reserved(reply);
                 Some(count)
@@ -204,6 +205,7 @@ impl Client {
             }
             Ok(Step::More) => {
                 self.is_starved = false;
+                self.unfinished.wait(has_unread(saved, id));
                 self.stage = Stage::Reads;
                 None
             }
@@ -230,6 +232,16 @@ fn next_cost<D: Device, R: Renderer + Drop>(saved: &SavedHub<D, R>, id: u64) -> 
     match saved.unread(ConnId(id)) {
         Some(unread) => step_cost(unread),
         None => PAGE_COST,
+    }
+}
+
+/// Whether bytes of a connection aren't answered yet.
+fn has_unread<D: Device, R: Renderer + Drop>(saved: &SavedHub<D, R>, id: u64) -> bool
+    ensures { result ≡ has_unread saved.now.hub.1 id }
+{
+    match saved.unread(ConnId(id)) {
+        Some(unread) => !unread.is_empty(),
+        None => false,
     }
 }
 

@@ -29,6 +29,7 @@ use doc_server_hosting::fault::HostingFault;
 use doc_server_hosting::host::Host;
 use doc_server_hosting::hosting::host_site;
 use doc_server_hosting::terms::Terms;
+use doc_server_serving::limits::Limits;
 use std::fs::{File, metadata};
 use std::net::Net;
 use std::os::unix::fs::FileTypeExt;
@@ -122,7 +123,11 @@ fn listen_on<H: Host, R: Renderer + Drop, P: Clock + Eprint>(
     let terms = Terms {
         journal: command.journal,
         connections: bounds.connections,
-        idle_seconds: bounds.idle_seconds,
+        limits: Limits {
+            idle_seconds: bounds.idle_seconds,
+            stranger_seconds: bounds.stranger_seconds,
+            request_seconds: bounds.request_seconds,
+        },
     };
     let log = if command.log {
         Some(AccessLog::new(rt, heap))

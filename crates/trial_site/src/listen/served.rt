@@ -21,6 +21,7 @@ use doc_server_network::saved_hub::SavedHub;
 use doc_server_restore::edits::Edits;
 use doc_server_restore::restore::restore;
 use doc_server_serving::fault::ServeFault;
+use doc_server_serving::limits::Limits;
 use doc_server_serving::room::keep_room;
 use doc_server_serving::server::Server;
 use doc_server_settling::reserve::{RESERVE, SPARE};
@@ -60,6 +61,15 @@ impl<R: Renderer + Drop> Model for Served<R> {
         → IsReady memory_seen memory_leaves has_failed memory_stale s.saved × IsAllSaved s.saved };
 }
 
+/// Connections end after so many seconds of silence alone.
+pub fn idle(idle_seconds: u64) -> Limits {
+    Limits {
+        idle_seconds,
+        stranger_seconds: u64::MAX,
+        request_seconds: u64::MAX,
+    }
+}
+
 impl<R: Renderer + Drop> Served<R> {
     /// A server at a port that the system chooses, with the journal of this file, whose edits are made on the hub.
     pub fn new<P: Clock + Net>(
@@ -72,7 +82,7 @@ impl<R: Renderer + Drop> Served<R> {
         let saved = saved_of(heap, hub, bounds, file)?;
         let address = SocketAddr::from((Ipv4Addr::LOCALHOST, 0));
         let net = MioNetwork::bind(rt, heap, address, false).ok()?;
-        let server = Server::new(rt, heap, bounds.connections, bounds.idle_seconds).ok()?;
+        let server = Server::new(rt, heap, bounds.connections, idle(bounds.idle_seconds)).ok()?;
         Some(Served {
             server,
             net,

@@ -16,7 +16,7 @@ ghost use Rattle.doc_server_network.specs.Saved.{IsAllSaved, IsReady};
 ghost use Rattle.doc_server_serving.specs.Wirings.{IsNew};
 
 use crate::listen::scene::bounds_of;
-use crate::listen::served::{Bounds, saved_over};
+use crate::listen::served::{Bounds, idle, saved_over};
 use crate::listen::told::push_told;
 use crate::serving::guests::{input_of, network_of};
 use crate::serving::held::replace;
@@ -186,7 +186,7 @@ fn serve<N: Network, D: Device + NamedFile, R: Renderer + Drop, P: Clock>(
     requires new { (k : ℕ) → IsNew (N.came net.old k) (N.gone net.old k) [] [] None }
     requires free { (k : ℕ) → N.is_free net.old k }
 {
-    let mut server = Server::new(rt, heap, asked.connections, asked.idle_seconds)?;
+    let mut server = Server::new(rt, heap, asked.connections, idle(asked.idle_seconds))?;
     let ended = server.serve(rt, net, saved);
     drop(server);
     ended
