@@ -93,9 +93,12 @@ fn bounds_of(table: &Table) -> Result<Bounds, ListeningError>
     let Some(media_bytes) = number_at(table, "media_bytes", MOST_MEDIA_BYTES, MEDIA_BYTES) else {
         return Err(ListeningError::BadMediaBytes);
     };
-    let Some(stranger_seconds) =
-        number_at(table, "stranger_seconds", MOST_SECONDS, STRANGER_SECONDS)
-    else {
+    let Some(stranger_seconds) = number_at(
+        table,
+        "stranger_seconds",
+        MOST_SECONDS,
+        STRANGER_SECONDS,
+    ) else {
         return Err(ListeningError::BadStrangerSeconds);
     };
     let Some(request_seconds) = number_at(table, "request_seconds", MOST_SECONDS, REQUEST_SECONDS)
