@@ -6,7 +6,7 @@ size. Then what becomes of such peers:
 - a pipeline is answered whole and in order, also to one that begins to read late, and to one that has ended its sending;
 - a PUT of 2 MiB gets its 413 before the connection ends, and the connection does end; so does that of a peer that goes on sending;
 - connection 1,001 of 1,000 waits, and is served when another one goes;
-- idle connections end after `idle_seconds`, and not before.
+- idle connections on which something was answered end after `idle_seconds`, and not before.
 
     python3 scripts/bench/listen_peers.py PROGRAM
 
@@ -26,7 +26,7 @@ BODY = f"<!DOCTYPE html>\n<title>a.md</title>\n<p>{(LINE * 64).strip()}</p>\n".e
 
 
 def site(name, connections, idle):
-    put(name, f'[listen]\nconnections = {connections}\nidle_seconds = {idle}\n{OWNER}[[page]]\npath = "a.md"\ntext = """\n{LINE * 64}"""\n')
+    put(name, f'[listen]\nconnections = {connections}\nidle_seconds = {idle}\nstranger_seconds = 60\n{OWNER}[[page]]\npath = "a.md"\ntext = """\n{LINE * 64}"""\n')
     return name
 
 
@@ -112,6 +112,14 @@ def next_one(server, peers):
     return client
 
 
+def known(peer):
+    """Asks once, so that it is no stranger's any more: one of those would end sooner."""
+    peer.sendall(b"HEAD /page/a.md HTTP/1.1\r\nHost: docs\r\nAuthorization: Bearer tok\r\n\r\n")
+    head = b""
+    while not head.endswith(b"\r\n\r\n"):
+        head += peer.recv(1)
+
+
 def ended(peer):
     try:
         return peer.recv(1) == b""
@@ -123,6 +131,8 @@ def bounds():
     server = scene.listen(site("narrow.toml", 1_000, IDLE))
     began = time.monotonic()
     peers = connected(server.port, 1_000)
+    for peer in peers:
+        known(peer)
     last = next_one(server, peers)
     for peer in peers:
         peer.setblocking(False)
