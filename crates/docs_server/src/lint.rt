@@ -117,14 +117,15 @@ fn told_of_document<R: AllocGlobal + Clone + Drop + Files>(
     ensures { IfOk result
         (λ told. told.is_fault ≡ false → is_taken (table_view document.now.table) ≡ true) }
 {
-    let mut found = findings(heap, &document.table)?.into_inner();
-    if has_fault(&found) {
-        let lines = report(heap, command.config, text, &document.table, &found)?;
+    let listed = findings(heap, &document.table)?;
+    if has_fault(listed.get()) {
+        let lines = report(heap, command.config, text, &document.table, listed.get())?;
         return Ok(Told {
             lines,
             is_fault: true,
         });
     }
+    let mut found = listed.into_inner();
     add_behind(rt, heap, &mut found, document, command)?;
     sort(&mut found)?;
     Ok(Told {
