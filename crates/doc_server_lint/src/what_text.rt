@@ -62,12 +62,7 @@ pub(crate) fn push_what(out: &mut String, key: &str, what: &What) -> Result<(), 
         }
         What::BadRow(line) => push_numbered(out, "line ", *line, ": bad row"),
         What::NameAgain(line) => {
-            push_numbered(
-                out,
-                "line ",
-                *line,
-                ": a name that has other characters",
-            )
+            push_numbered(out, "line ", *line, ": a name that has other characters")
         }
         What::NoPage => push(out, "no page"),
         What::Edited(path) => {

@@ -107,6 +107,7 @@ fn told_of_text<R: AllocGlobal + Clone + Drop + Files>(
 }
 
 /// What is told of a document. Files are looked at where it has no fault, and the journal where they have none either.
+#[tactic(auto, using(crate::proofs::LintSteps::clear_is_taken))]
 fn told_of_document<R: AllocGlobal + Clone + Drop + Files>(
     rt: &R,
     heap: Heap,

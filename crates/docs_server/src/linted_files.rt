@@ -159,7 +159,14 @@ fn add_of_folder<R: AllocGlobal + Clone + Drop + Files>(
         add(found, Place::Folder(number), What::NoPage, false)?;
     }
     for file in files {
-        add_of_file(heap, found, number, folder.rules.skips, file, &mut rows.sources)?;
+        add_of_file(
+            heap,
+            found,
+            number,
+            folder.rules.skips,
+            file,
+            &mut rows.sources,
+        )?;
     }
     Ok(())
 }
