@@ -1,1 +1,2 @@
+mod LintSteps
 mod StoreSteps

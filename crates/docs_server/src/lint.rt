@@ -107,6 +107,7 @@ fn told_of_text<R: AllocGlobal + Clone + Drop + Files>(
 }
 
 /// What is told of a document. Files are looked at where it has no fault, and the journal where they have none either.
+#[tactic(auto, using(crate::proofs::LintSteps::clear_is_taken))]
 fn told_of_document<R: AllocGlobal + Clone + Drop + Files>(
     rt: &R,
     heap: Heap,
@@ -117,14 +118,15 @@ fn told_of_document<R: AllocGlobal + Clone + Drop + Files>(
     ensures { IfOk result
         (λ told. told.is_fault ≡ false → is_taken (table_view document.now.table) ≡ true) }
 {
-    let mut found = findings(heap, &document.table)?.into_inner();
-    if has_fault(&found) {
-        let lines = report(heap, command.config, text, &document.table, &found)?;
+    let listed = findings(heap, &document.table)?;
+    if has_fault(listed.get()) {
+        let lines = report(heap, command.config, text, &document.table, listed.get())?;
         return Ok(Told {
             lines,
             is_fault: true,
         });
     }
+    let mut found = listed.into_inner();
     add_behind(rt, heap, &mut found, document, command)?;
     sort(&mut found)?;
     Ok(Told {

@@ -17,6 +17,7 @@ pub fn tell_faults<P: Eprint>(rt: &P, heap: Heap, name: &str, text: &str) {
 }
 
 /// The lines of the faults of a configuration in the file of this name.
+#[tactic(auto, using(crate::proofs::LintSteps::none_told, crate::proofs::LintSteps::faults_told))]
 fn faults_told(heap: Heap, name: &str, text: &str) -> Result<String, Memory>
     ensures { IfOk result (λ lines. IsToldFaults name.now text.now (string_bytes lines)) }
 {

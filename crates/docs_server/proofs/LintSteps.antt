@@ -1,0 +1,31 @@
+-- What is told of a configuration.
+use Rattle.std.proofs.Common.{◌≡◌, ℕ, List, Bool, true, false, subst, sym, ap, ◌∙◌, absurd}
+use Rattle.std.specs.Prelude.{Some, None}
+use Rattle.std.specs.List.{list_any}
+use Rattle.std.proofs.lemmas.Option.{none-some, same_Some}
+use Rattle.toml.specs.Data.{Members}
+use Rattle.toml.specs.Parse.{parse_document}
+use Rattle.doc_server_lint.specs.declared.finding.Finding.{Finding}
+use Rattle.doc_server_lint.specs.Faults.{faults_of}
+use Rattle.doc_server_lint.specs.Findings.{findings_of}
+use Rattle.doc_server_lint.specs.Laws.{is_taken}
+use Rattle.doc_server_lint.specs.Reports.{IsReport}
+use Rattle.doc_server_lint.proofs.ClearLaw.{no_fault_is_taken}
+use Rattle.docs_server.specs.Linting.{IsToldFaults}
+
+-- a document is taken where no finding is a fault
+pub clear_is_taken : (document : Members) (found : List Finding) → found ≡ findings_of document
+    → list_any (λ finding. finding.is_fault) found ≡ false → is_taken document ≡ true
+clear_is_taken document found is none =
+    no_fault_is_taken document (subst (λ it. list_any (λ finding. finding.is_fault) it ≡ false) is none)
+
+-- of a text that is no document there is nothing more to tell
+pub none_told : (name text lines : List ℕ) → parse_document text ≡ None → IsToldFaults name text lines
+none_told name text lines none document is = absurd (none-some document (sym none ∙ is))
+
+-- what is told of the faults of a document is told of the text that it is read of
+pub faults_told : (name text lines : List ℕ) (document : Members) (found : List Finding) → parse_document text ≡ Some document
+    → found ≡ faults_of document → IsReport name text document found lines → IsToldFaults name text lines
+faults_told name text lines document found read is told other is_other =
+    subst (λ it. IsReport name text it (faults_of it) lines) (same_Some document other (sym read ∙ is_other))
+    (subst (λ it. IsReport name text document it lines) is told)
