@@ -1,5 +1,5 @@
 -- Pieces that a read takes off the front of what is left, and numbers that wait to be told of.
-use Rattle.std.proofs.Common.{◌≡◌, ◌≤◌, ◌+◌, ◌-◌, ◌++◌, ◌==◌, ℕ, List, [], ◌∷◌, length, take, drop, Bool, true, false, ◌||◌, refl, sym, ap, subst, ◌∙◌, arith, length-take, eq-eqb}
+use Rattle.std.proofs.Common.{◌≡◌, ◌≤◌, ◌+◌, ◌++◌, ◌==◌, ℕ, List, [], ◌∷◌, length, take, drop, Bool, true, false, ◌||◌, refl, sym, ap, subst, ◌∙◌, arith, length-take, eq-eqb}
 use Rattle.std.proofs.Math.Seq.{take-add, take-append_seam}
 use Rattle.doc_server_network.specs.Memories.{is_among}
 

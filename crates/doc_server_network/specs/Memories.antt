@@ -1,5 +1,5 @@
 -- What contracts see of a network in memory.
-use Rattle.std.specs.Prelude.{◌≡◌, ⊤, ℕ, ◌==◌, ◌+◌, ◌-◌, ◌++◌, List, [], ◌∷◌, length, take, drop, min, Bool, true, false, not, ◌&&◌, ◌||◌, if◌then◌else◌}
+use Rattle.std.specs.Prelude.{◌≡◌, ⊤, ℕ, ◌==◌, ◌+◌, ◌-◌, List, [], ◌∷◌, length, take, drop, min, Bool, true, false, not, ◌&&◌, ◌||◌, if◌then◌else◌}
 use Rattle.std.specs.Prelude.{Option, Some, None, option_map, Result, Ok, Err, ◌⊎◌}
 use Rattle.std.specs.BTreeMap as tree
 use Rattle.std.specs.Ordering.{nat_cmp}
@@ -68,6 +68,11 @@ abbrev pub IsBehindWrite : Result ℕ NetFault → Line → Line → Type 0
 IsBehindWrite (Ok count) l m = record m { output = l.output } ≡ called l
 IsBehindWrite (Err e) l m = record m { output = l.output } ≡ over (if breaks l then l else called l)
 
+-- the same of one that stands, where the write didn't fail
+abbrev pub IsCalled : Option Line → Option Line → Type 0
+IsCalled (Some l) (Some m) = record m { output = l.output } ≡ called l
+IsCalled l m = ⊥
+
 -- ended, and let go
 abbrev pub ended : Line → Line
 ended l = record l { has_ended = true }
@@ -108,6 +113,10 @@ has_none m k = line_at m k ≡ None
 abbrev pub has_one : (Line → Bool) → Option Line → Bool
 has_one is None = false
 has_one is (Some l) = is l
+
+abbrev pub HasLine : (Line → Type 0) → Option Line → Type 0
+HasLine P None = ⊥
+HasLine P (Some l) = P l
 
 -- no connection stands there, or it has said that it has ended
 abbrev pub ended_at : Option Line → Type 0
@@ -150,10 +159,6 @@ is_among k (n ∷ numbers) = n == k || is_among k numbers
 -- its connection will be told of
 abbrev pub memory_wakes : MemoryNetwork → ℕ → Type 0
 memory_wakes m k = is_among k m.waking.items ≡ true
-
--- one more guest stands last, or whatever else
-abbrev pub invited : MemoryNetwork → Guest → List Guest
-invited m guest = m.guests.items ++ guest ∷ []
 
 -- a wait finds the door, where somebody waits there, the end of standard input, where none is left, and all numbers that wake
 abbrev pub waited : MemoryNetwork → MemoryNetwork
@@ -200,19 +205,25 @@ IsAcceptedOf (guests.Leaves ∷ rest) a = a ≡ accepts.Failed
 IsAcceptedOf (guests.Waits ∷ rest) a = a ≡ accepts.Rests
 IsAcceptedOf (guests.Peer script ∷ rest) a = (a ≡ accepts.Peer) ⊎ (a ≡ accepts.Failed)
 
--- the first of them is a peer, and this is its connection
+-- the first of them is a peer, whose connection this is
 abbrev pub IsLineOf : List Guest → Option Line → Type 0
-IsLineOf (guests.Peer script ∷ rest) (Some l) = IsBegun script l
-IsLineOf guests line = ⊥
+IsLineOf (guests.Peer script ∷ rest) line = HasLine (IsBegun script) line
+IsLineOf others line = ⊥
 
--- but for the connections and what wakes, it is as it was
+-- a call leaves who waits, and how many waits are left; or all but these guests; or all but the connections
 abbrev pub KeepsDoor : MemoryNetwork → MemoryNetwork → Type 0
 KeepsDoor old new = (guests_of new ≡ guests_of old) × (waits_of new ≡ waits_of old)
+
+abbrev pub IsSameButGuests : MemoryNetwork → MemoryNetwork → Type 0
+IsSameButGuests old new = record new { guests = old.guests } ≡ old
+
+abbrev pub IsSameButLines : MemoryNetwork → MemoryNetwork → Type 0
+IsSameButLines old new = record new { lines = old.lines } ≡ old
 
 -- nothing has passed under the number, and it is free
 abbrev pub IsUntouched : MemoryNetwork → ℕ → Type 0
 IsUntouched m k = has_none m k × (memory_came m k ≡ Some []) × (memory_gone m k ≡ Some [])
 
--- nothing has passed at all, nobody waits, and so many waits are left
-abbrev pub IsNew : MemoryNetwork → ℕ → Type 0
-IsNew m waits = ((k : ℕ) → IsUntouched m k) × (guests_of m ≡ []) × (waking_of m ≡ []) × IsAllTold m × (waits_of m ≡ waits)
+-- nobody waits, nothing will be told of, and so many waits are left
+abbrev pub IsNew : ℕ → MemoryNetwork → Type 0
+IsNew waits m = (guests_of m ≡ []) × (waking_of m ≡ []) × IsAllTold m × (waits_of m ≡ waits)
