@@ -75,7 +75,8 @@ module _ {D : Type 0} (seen : D → Option (List ℕ)) (may_leave : D → List �
     pub texts : List (List ℕ)
     pub is_open : IsOpen seen may_leave failed stale journal texts
     pub began : IsRestored config texts begin
-    pub waits : unsaved.is_whole ≡ true → (lines : List ℕ) × (unsaved.lines ≡ Some lines) × Waits config texts journal.room unsaved.most w lines
+    pub waits : unsaved.is_whole ≡ true → (lines : List ℕ) × (unsaved.lines ≡ Some lines)
+        × Waits config texts journal.room unsaved.most w lines
     pub of_calls : IsOfCalls w.site
     pub apart : IsApart w.site w.media
     pub limit : count_in w ≤ page_limit
