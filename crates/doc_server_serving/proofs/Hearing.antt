@@ -148,7 +148,7 @@ all_hear_join ready more xs ys t u v a b = record {
 
 spares_itself : (o : Option Peer) → SparesAt o o
 spares_itself None = tt
-spares_itself (Some p) = record { resting = λ r. refl; reading = λ r. refl }
+spares_itself (Some p) = record { resting = λ r. refl; reading = λ r. refl; over = λ r. refl }
 
 pub spares_nobody : (t : Table) → SparesAll t t
 spares_nobody t = λ k. spares_itself (map.get t k)
@@ -173,6 +173,7 @@ spares_one_join (Some p) (Some q) None a b = b
 spares_one_join (Some p) (Some q) (Some r) a b = record {
   resting = λ is. let e = a.resting is in b.resting (ap (λ (x : Peer). x.rests) e ∙ is) ∙ e;
   reading = λ is. let e = a.reading is in b.reading (ap (λ (x : Peer). x.reads) e ∙ is) ∙ e;
+  over = λ is. let e = a.over is in b.over (ap (λ (x : Peer). x.is_over) e ∙ is) ∙ e;
 }
 
 pub spares_join : (t u v : Table) → SparesAll t u → SparesAll u v → SparesAll t v

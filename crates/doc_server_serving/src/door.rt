@@ -1,6 +1,6 @@
 //! Accepting peers.
 
-ghost use Rattle.std.specs.Prelude.{◌≡◌, ◌≤◌, ◌<◌, ◌+◌, false, true};
+ghost use Rattle.std.specs.Prelude.{◌≡◌, ◌≤◌, ◌<◌, ◌+◌, ◌&&◌, ◌||◌, nat_lt, not, false, true};
 ghost use Rattle.std.specs.FinMap as map;
 ghost use Rattle.doc_server_network.specs.Networks.{Rests, StaysBut};
 ghost use Rattle.doc_server_network.specs.Saved.{IsReady, StaysSaved};
@@ -32,7 +32,7 @@ pub struct Door {
 impl Door {
     /// A door at which nobody has knocked, for so many peers at once.
     pub fn new(most: usize) -> Door
-        ensures { result.most ≡ most }
+        ensures { result ≡ record { most = most; is_awaited = false; rests = false } }
     {
         Door {
             most,
@@ -43,21 +43,23 @@ impl Door {
 
     /// What the network has told.
     pub fn hear(&mut self, news: &News)
-        ensures { self.new.most ≡ self.old.most }
+        ensures { self.new ≡ record self.old { is_awaited = self.old.is_awaited || news.now.is_knocked } }
     {
         self.is_awaited = self.is_awaited || news.is_knocked;
     }
 
     /// A sweep: it is tried again.
     pub fn wake(&mut self)
-        ensures { self.new.most ≡ self.old.most }
+        ensures { self.new ≡ record self.old { rests = false } }
     {
         self.rests = false;
     }
 
     /// Whether a peer can be accepted now.
     pub fn is_open(&self, peers: &Peers) -> bool
-        ensures { result ≡ true → map.len peers.now < self.now.most }
+        ensures open { result ≡ (self.now.is_awaited && not self.now.rests
+            && nat_lt (map.len peers.now) self.now.most) }
+        ensures room { result ≡ true → map.len peers.now < self.now.most }
     {
         self.is_awaited && !self.rests && peers.count() < self.most
     }

@@ -24,7 +24,7 @@ accepts-preserved g c = record {
       c.accepts.saved.hub c.accept_one.new.saved.hub c.args.net.now c.accepts.net c.accept_one.new.net c.args.peers.now c.accepts.peers
       c.accept_one.new.peers c.accepts.invariant.goes c.accept_one.ensures.goes;
   bound = λ le.
-      omega (arith, c.accept_one.ensures.more, c.is_open.ensures c.if-not-is_open.false, c.accepts.invariant.most);
+      omega (arith, c.accept_one.ensures.more, c.is_open.ensures.room c.if-not-is_open.false, c.accepts.invariant.most);
   most = c.accept_one.ensures.most ∙ c.accepts.invariant.most;
   site = same_join c.args.saved.now.hub.1 c.accepts.saved.hub.1 c.accept_one.new.saved.hub.1 c.accepts.invariant.site
       c.accept_one.ensures.site;

@@ -1,4 +1,4 @@
-use Rattle.std.proofs.Common.{◌≤◌, arith, subst, ◌∙◌}
+use Rattle.std.proofs.Common.{◌≤◌, ap, arith, subst, ◌∙◌}
 use Rattle.std.specs.FinMap as map
 use Rattle.doc_server_serving.proofs.Crashing.{ended_behind, nothing_written, room_before, served_behind}
 use Rattle.doc_server_serving.proofs.Fewer.{fewer_given}
@@ -136,7 +136,7 @@ returns-in_err-end_turn-clause-bound g c =
     λ le.
     let told = fewer_given (g.N.Network.gone c.wait.new.self) (g.N.Network.gone c.wake_told-news.new.net)
     (g.N.Network.has_ended c.wake_told-news.new.net) c.args.self.now.peers c.wake_told-news.new.peers c.wake_told-news.ensures.gives in
-    let most = c.serve_ready.ensures.most ∙ c.hear.ensures in
+    let most = c.serve_ready.ensures.most ∙ ap (λ d. d.most) c.hear.ensures in
     subst (λ n. map.len c.end_turn.new.self.peers ≤ n) most
     (c.end_turn.ensures.bound (omega (arith, le, told, c.serve_ready.ensures.fewer, most)))
 
@@ -145,7 +145,7 @@ returns-clause-bound g c =
     λ le.
     let told = fewer_given (g.N.Network.gone c.wait.new.self) (g.N.Network.gone c.wake_told-news.new.net)
     (g.N.Network.has_ended c.wake_told-news.new.net) c.args.self.now.peers c.wake_told-news.new.peers c.wake_told-news.ensures.gives in
-    let most = c.serve_ready.ensures.most ∙ c.hear.ensures in
+    let most = c.serve_ready.ensures.most ∙ ap (λ d. d.most) c.hear.ensures in
     subst (λ n. map.len c.end_turn.new.self.peers ≤ n) most
     (c.end_turn.ensures.bound (omega (arith, le, told, c.serve_ready.ensures.fewer, most)))
 
