@@ -40,6 +40,14 @@ is_among k (n ∷ numbers) = n == k || is_among k numbers
 abbrev pub memory_wakes : MemoryNetwork → ℕ → Type 0
 memory_wakes m k = is_among k m.waking.items ≡ true
 
+-- the numbers that this wait tells of
+abbrev pub due_numbers : MemoryNetwork → List ℕ
+due_numbers m = take m.due m.waking.items
+
+-- nothing is left of what this wait has found
+abbrev pub IsAllTold : MemoryNetwork → Type 0
+IsAllTold m = (m.is_knocked ≡ false) × (m.is_ending ≡ false) × (due_numbers m ≡ [])
+
 -- no connection stands there, or it has said that it has ended
 abbrev pub ended_at : Option Line → Type 0
 ended_at None = ⊤

@@ -137,7 +137,7 @@ impl MemoryNetwork {
 }
 
 impl Network for MemoryNetwork {
-    ghost use Rattle.doc_server_network.specs.Memories.{memory_came, memory_gone, has_none, memory_ended, memory_wakes};
+    ghost use Rattle.doc_server_network.specs.Memories.{IsAllTold, memory_came, memory_gone, has_none, memory_ended, memory_wakes};
 
     ghost came = { memory_came };
 
@@ -148,6 +148,8 @@ impl Network for MemoryNetwork {
     ghost wakes = { memory_wakes };
 
     ghost has_ended = { memory_ended };
+
+    ghost told_all = { IsAllTold };
 
     fn wait(&mut self, _most: Duration) -> Result<(), NetFault> {
         let Some(left) = self.waits.checked_sub(1) else {

@@ -146,6 +146,8 @@ impl Network for MioNetwork {
 
     ghost has_ended = { λ _ _. ⊤ };
 
+    ghost told_all = { λ _. ⊤ };
+
     fn wait(&mut self, most: Duration) -> Result<(), NetFault> {
         self.told = 0;
         match self.poll.poll(&mut self.events, Some(most)) {

@@ -1,6 +1,6 @@
 //! A network: connections by their numbers, and calls that never wait but one.
 
-ghost use Rattle.std.specs.Prelude.{◌≡◌, ◌≤◌, ℕ, List, Option, length, take, IfOk, OnErr};
+ghost use Rattle.std.specs.Prelude.{◌≡◌, ◌≤◌, ℕ, List, Option, None, length, take, IfOk, OnErr};
 ghost use Rattle.doc_server_network.specs.Networks.{came_len, took_len, Moves, Rests, Stays, StaysBut, TellsLoss, TellsOf};
 
 use crate::accepted::Accepted;
@@ -27,6 +27,9 @@ pub trait Network {
     /// Whether a connection has ended: nothing comes any more, or a call on it has failed.
     ghost has_ended: { Self → ℕ → Type 0 };
 
+    /// Whether all that the last wait has found was told.
+    ghost told_all: { Self → Type 0 };
+
     /// Waits for so long at most, until there is something to tell. No other call waits.
     fn wait(&mut self, most: Duration) -> Result<(), NetFault>
         ensures wakes { Stays (wakes self.old) (wakes self.new) }
@@ -38,6 +41,7 @@ pub trait Network {
     /// The next of what the wait has found, until nothing is left of it.
     fn told(&mut self) -> Option<Told>
         ensures wakes { (k : ℕ) → (TellsOf result k → ⊥) → wakes self.old k → wakes self.new k }
+        ensures all { result ≡ None → told_all self.new }
         ensures lost { (k : ℕ) → TellsLoss result k → has_ended self.new k }
         ensures came { Rests (came self.old) (came self.new) }
         ensures gone { Rests (gone self.old) (gone self.new) }

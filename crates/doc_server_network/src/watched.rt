@@ -93,6 +93,8 @@ impl<N: Network + Drop, W: Watch + Drop> Network for Watched<N, W> {
 
     ghost has_ended = { λ watched. N.has_ended watched.net };
 
+    ghost told_all = { λ watched. N.told_all watched.net };
+
     fn wait(&mut self, most: Duration) -> Result<(), NetFault> {
         self.watch.end_turn();
         let waited = self.net.wait(most);
