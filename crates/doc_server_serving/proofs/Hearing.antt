@@ -20,7 +20,7 @@ some_in xs x among none = omega (arith, among.1, ap length none)
 pub heard_by : (P : Outcome → Type 0) (k : ℕ) (run : List Happened) (q : Peer) → Gave P k run → WasHeard k run q
 heard_by P k run q gave = inr (some_in (events_on k run) gave.0 gave.1)
 
-none_of : {X : Type 0} (xs ys : List X) → xs ++ ys ≡ [] → (xs ≡ []) × (ys ≡ [])
+pub none_of : {X : Type 0} (xs ys : List X) → xs ++ ys ≡ [] → (xs ≡ []) × (ys ≡ [])
 none_of [] ys e = (refl, e)
 none_of (x ∷ xs) ys e = absurd (omega (arith, ap length e))
 

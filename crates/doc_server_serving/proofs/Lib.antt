@@ -2,6 +2,7 @@ mod Accepting
 mod AnswerSteps
 mod Bounds
 pub mod Crashing
+mod Ending
 mod Feeding
 mod Fewer
 mod Given

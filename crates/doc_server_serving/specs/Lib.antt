@@ -1,4 +1,5 @@
 pub mod Crashing
+pub mod Faults
 pub mod Hearing
 pub mod Invariants
 pub mod Leading

@@ -4,7 +4,7 @@ use Rattle.doc_server_serving.specs.declared.silence.Silence.{Silence}
 
 -- a peer that is heard; one that was sent its last reply isn't, whatever it sends
 abbrev pub heard : Silence → Silence
-heard silence = if silence.lingers then silence else record { sweeps = 0; lingers = false }
+heard silence = record { sweeps = if silence.lingers then silence.sweeps else 0; lingers = silence.lingers }
 
 -- a sweep more; the count ends at the last value of a u64
 abbrev pub swept : Silence → Silence

@@ -76,7 +76,8 @@ TakesInAt c d pushes sends p q = ⊥
 abbrev pub HandsOver : Option (List ℕ) → Option (List ℕ) → List ℕ → List ℕ → Type 0
 HandsOver old new before left = (given : List ℕ) × (new ≡ append_known old given) × (before ≡ given ++ left)
 
--- Who is open was open. Who was, and isn't any more, is closed because the connection has ended; and who is let go from here on is for that.
+-- Who is open was open. Who was, and isn't any more, is closed because the connection has ended, and so it is with
+-- who is let go from here on.
 pub record ClosesBy (ended : Type 0) (p q : Peer) : Type 0 where
   pub opens : q.is_open ≡ true → p.is_open ≡ true
   pub closes : p.is_open ≡ true → q.is_open ≡ false → ended

@@ -1,6 +1,6 @@
 //! The loop over a network.
 
-ghost use Rattle.std.specs.Prelude.{◌≡◌, ◌≤◌, ℕ, true, IfOk, OnOk, if◌then◌else◌};
+ghost use Rattle.std.specs.Prelude.{◌≡◌, ◌≤◌, ◌⊎◌, ℕ, false, true, IfErr, IfOk, OnOk, if◌then◌else◌};
 ghost use Rattle.std.specs.FinMap as map;
 ghost use Rattle.std.specs.List.{list_any};
 ghost use Rattle.doc_hub.specs.Worlds.{World};
@@ -14,6 +14,7 @@ ghost use Rattle.doc_server_serving.specs.Parts.{takes_part_at, turn_of};
 ghost use Rattle.doc_server_serving.specs.Sharing.{times_among};
 ghost use Rattle.doc_server_serving.specs.Sites.{IsSameSite};
 ghost use Rattle.doc_server_serving.specs.Wirings.{AreWoken, IsFedAt, SweptAll};
+ghost use Rattle.doc_server_serving.specs.declared.fault.ServeFault.TheVariants as faults;
 ghost use Rattle.doc_store.specs.Store.{StoreState};
 
 use crate::door::Door;
@@ -32,6 +33,7 @@ use doc_server_listen::share::Share;
 use doc_server_network::network::Network;
 use doc_server_network::saved_hub::SavedHub;
 use doc_server_settling::reserve::{RESERVE, SPARE};
+use std::alloc::AllocError;
 use std::rt::Clock;
 use std::time::{Duration, Instant};
 
@@ -80,10 +82,29 @@ impl Server {
     ) -> Result<Server, ServeFault>
         ensures empty { IfOk result (λ server. server.peers ≡ map.empty) }
         ensures most { IfOk result (λ server. server.door.most ≡ connections) }
+        ensures why { IfErr result (λ fault. (fault ≡ faults.Socket) ⊎ (fault ≡ faults.Memory)) }
     {
         let Ok(now) = Instant::now(rt) else {
             return Err(ServeFault::Socket);
         };
+        let server = Server::begun(now, heap, connections, idle_seconds)?;
+        Ok(server)
+    }
+
+    /// Such a server, which begins at this time. Nothing but memory can be lacking for it.
+    pub fn begun(
+        now: Instant,
+        heap: Heap,
+        connections: usize,
+        idle_seconds: u64,
+    ) -> Result<Server, AllocError>
+        ensures empty { IfOk result (λ server. server.peers ≡ map.empty) }
+        ensures door { IfOk result (λ server. server.door
+            ≡ record { most = connections; is_awaited = false; rests = false }) }
+        ensures idle { IfOk result (λ server. server.idle_seconds ≡ idle_seconds) }
+        ensures times { IfOk result (λ server. (server.swept ≡ now) × (server.looked ≡ now)) }
+        ensures awaits { IfOk result (λ server. server.goes_on ≡ false) }
+    {
         let mut server = Server {
             heap,
             peers: Peers::new(heap),

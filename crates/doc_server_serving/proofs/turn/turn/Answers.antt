@@ -1,4 +1,5 @@
 use Rattle.std.proofs.Common.{ap}
+use Rattle.doc_server_serving.proofs.Ending.{ends_turned, sent_turned}
 use Rattle.doc_server_serving.proofs.Tables.{gives_fronts}
 use Rattle.doc_server_serving.proofs.TurnSteps.{begun_sharing, ended_sharing, on_err}
 use Rattle.doc_server_serving.proofs.turn.turn.Goals as goal
@@ -35,3 +36,13 @@ returns-clause-turns g c =
     (g.N.Network.has_ended c.send_settled-2.new.net) c.args.peers.now c.take_in_all.new.self c.send_settled-2.new.peers
     c.finish_all.new.self c.args.share.now c.take_in_all.new.share begun c.send_settled-2.ensures.gives c.send_settled-2.ensures.came
     c.finish_all.ensures.lingers c.send_settled-2.ensures.spares c.finish_all.ensures.spares c.finish_all.ensures.gone
+
+pub returns-clause-sent : goal.returns-clause-sent
+returns-clause-sent g c =
+    sent_turned c.args.ready.now (g.N.Network.came c.send_settled-2.new.net) (g.N.Network.came c.finish_all.new.net)
+    c.send_settled-2.new.peers c.finish_all.new.self c.send_settled-2.ensures.sent c.finish_all.ensures.lingers c.finish_all.ensures.spares
+
+pub returns-clause-ends : goal.returns-clause-ends
+returns-clause-ends g c =
+    ends_turned c.args.ready.now (g.N.Network.came c.send_settled-2.new.net) (g.N.Network.came c.finish_all.new.net)
+    c.send_settled-2.new.peers c.finish_all.new.self c.finish_all.ensures.ends c.finish_all.ensures.lingers c.finish_all.ensures.spares
