@@ -24,10 +24,10 @@ pub none_of : {X : Type 0} (xs ys : List X) → xs ++ ys ≡ [] → (xs ≡ []) 
 none_of [] ys e = (refl, e)
 none_of (x ∷ xs) ys e = absurd (omega (arith, ap length e))
 
-heard_first : (k : ℕ) (xs ys : List Happened) → (events_on k xs ≡ [] → ⊥) → events_on k (xs ++ ys) ≡ [] → ⊥
+pub heard_first : (k : ℕ) (xs ys : List Happened) → (events_on k xs ≡ [] → ⊥) → events_on k (xs ++ ys) ≡ [] → ⊥
 heard_first k xs ys some e = some ((none_of (events_on k xs) (events_on k ys) (sym (filter-append (is_on k) xs ys) ∙ e)).0)
 
-heard_last : (k : ℕ) (xs ys : List Happened) → (events_on k ys ≡ [] → ⊥) → events_on k (xs ++ ys) ≡ [] → ⊥
+pub heard_last : (k : ℕ) (xs ys : List Happened) → (events_on k ys ≡ [] → ⊥) → events_on k (xs ++ ys) ≡ [] → ⊥
 heard_last k xs ys some e = some ((none_of (events_on k xs) (events_on k ys) (sym (filter-append (is_on k) xs ys) ∙ e)).1)
 
 pub still_heard : (k : ℕ) (xs ys : List Happened) (q : Peer) → WasHeard k ys q → WasHeard k (xs ++ ys) q
@@ -42,12 +42,13 @@ heard_on k xs ys q r (inr some) keeps = inr (heard_first k xs ys some)
 -- ---- one client
 
 pub hears_itself : (k : ℕ) (p : Peer) → Hears k [] p p
-hears_itself k p = record { resting = λ r. inl r; reading = λ is. inl refl }
+hears_itself k p = record { resting = λ r. inl r; reading = λ is. inl refl; waits = λ w. w }
 
 hears_join : (k : ℕ) (xs ys : List Happened) (p q r : Peer) → Hears k xs p q → Hears k ys q r → Hears k (xs ++ ys) p r
 hears_join k xs ys p q r a b = record {
   resting = λ rests. heard_on k xs ys q r (a.resting rests) b.resting;
   reading = λ is. by is (a.reading is);
+  waits = λ w. b.waits (a.waits w);
 }
   where
     same : IsReader p → q ≡ p → (r ≡ q) ⊎ WasHeard k ys r → (r ≡ p) ⊎ WasHeard k (xs ++ ys) r
@@ -60,7 +61,7 @@ hears_join k xs ys p q r a b = record {
 
 hears_at_itself : (k : ℕ) (run : List Happened) (o : Option Peer) → HearsAt k run o o
 hears_at_itself k run None = tt
-hears_at_itself k run (Some p) = record { resting = λ r. inl r; reading = λ is. inl refl }
+hears_at_itself k run (Some p) = record { resting = λ r. inl r; reading = λ is. inl refl; waits = λ w. w }
 
 hears_at_join : (k : ℕ) (xs ys : List Happened) (p q r : Option Peer) → HearsAt k xs p q → HearsAt k ys q r → HearsAt k (xs ++ ys) p r
 hears_at_join k xs ys None None None a b = tt

@@ -12,6 +12,7 @@ mod Hearing
 mod LeavingSteps
 mod Listed
 pub mod HandingOver
+mod Minding
 mod Modesty
 mod ReadSteps
 mod ServingSteps

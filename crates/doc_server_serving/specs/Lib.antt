@@ -5,6 +5,7 @@ pub mod Invariants
 pub mod Leading
 pub mod Parts
 pub mod Replies
+pub mod Rooms
 pub mod Servings
 pub mod Sharing
 pub mod Silences

@@ -4,6 +4,7 @@ ghost use Rattle.std.specs.Prelude.{◌≡◌, ◌≤◌, ◌<◌, ◌+◌, ◌&
 ghost use Rattle.std.specs.FinMap as map;
 ghost use Rattle.doc_server_network.specs.Networks.{Rests, StaysBut};
 ghost use Rattle.doc_server_network.specs.Saved.{IsReady, StaysSaved};
+ghost use Rattle.doc_server_serving.specs.Hearing.{WaitOn};
 ghost use Rattle.doc_server_serving.specs.Invariants.{AreFree, GoesOn};
 ghost use Rattle.doc_server_serving.specs.Sites.{IsSameSite};
 
@@ -75,6 +76,7 @@ impl Door {
         requires free { AreFree saved.old.hub.1.given (N.is_free net.old) }
         ensures goes { GoesOn R.page N.came N.gone N.wakes N.is_free saved.old.hub saved.new.hub
             net.old net.new peers.old peers.new }
+        ensures waits { WaitOn peers.old peers.new }
         ensures bound { map.len peers.old ≤ self.old.most → map.len peers.new ≤ self.old.most }
         ensures most { self.new.most ≡ self.old.most }
         ensures site { IsSameSite saved.old.hub.1 saved.new.hub.1 }
@@ -103,6 +105,7 @@ impl Door {
         requires free { AreFree saved.old.hub.1.given (N.is_free net.old) }
         ensures goes { GoesOn R.page N.came N.gone N.wakes N.is_free saved.old.hub saved.new.hub
             net.old net.new peers.old peers.new }
+        ensures waits { WaitOn peers.old peers.new }
         ensures more { map.len peers.new ≤ map.len peers.old + 1 }
         ensures most { self.new.most ≡ self.old.most }
         ensures site { IsSameSite saved.old.hub.1 saved.new.hub.1 }

@@ -7,7 +7,7 @@ ghost use Rattle.doc_hub.specs.Worlds.{World};
 ghost use Rattle.doc_server_network.specs.Crashes.{CrashesLeave, Restores, RestoresEither};
 ghost use Rattle.doc_server_network.specs.Saved.{IsAllSaved, IsReady, IsSaved, IsSettled, StaysSaved};
 ghost use Rattle.doc_server_serving.specs.Crashing.{AreKnown, RestoresFront};
-ghost use Rattle.doc_server_serving.specs.Hearing.{HeardAt};
+ghost use Rattle.doc_server_serving.specs.Hearing.{HeardAt, IsMinded, WaitOn};
 ghost use Rattle.doc_server_serving.specs.Invariants.{AreFree, GoesOn, HasServedNobody, IsServed};
 ghost use Rattle.doc_server_serving.specs.Leading.{Leads, LeadsQuietly};
 ghost use Rattle.doc_server_serving.specs.Parts.{takes_part_at, turn_of};
@@ -175,6 +175,10 @@ impl Server {
             net.old net.new self.old.peers self.new.peers }
         ensures bound { map.len self.old.peers ≤ self.old.door.most
             → map.len self.new.peers ≤ self.old.door.most }
+        ensures heard { OnOk result ((s : GoesOn R.page N.came N.gone N.wakes N.is_free
+            saved.old.hub saved.new.hub net.old net.new self.old.peers self.new.peers)
+            × ((k : ℕ) → IsMinded k s.leads.run
+            (map.get self.old.peers k) (map.get self.new.peers k))) }
         ensures most { self.new.door.most ≡ self.old.door.most }
         ensures all { OnOk result (IsAllSaved saved.new) }
         ensures ready { OnOk result (IsReady D.seen D.may_leave D.failed D.stale saved.new) }
@@ -232,6 +236,7 @@ impl Server {
             saved.old.hub saved.new.hub net.old net.new self.old.peers self.new.peers)
             × ((k : ℕ) → HeardAt k s.leads.run
             (map.get self.old.peers k) (map.get self.new.peers k))) }
+        ensures waits { WaitOn self.old.peers self.new.peers }
         ensures fewer { map.len self.new.peers ≤ map.len self.old.peers }
         ensures most { self.new.door.most ≡ self.old.door.most }
         ensures all { OnOk result (IsAllSaved saved.new) }
@@ -279,6 +284,7 @@ impl Server {
         requires free { AreFree saved.old.hub.1.given (N.is_free net.old) }
         ensures goes { GoesOn R.page N.came N.gone N.wakes N.is_free saved.old.hub saved.new.hub
             net.old net.new self.old.peers self.new.peers }
+        ensures waits { WaitOn self.old.peers self.new.peers }
         ensures bound { map.len self.old.peers ≤ self.old.door.most
             → map.len self.new.peers ≤ self.old.door.most }
         ensures most { self.new.door.most ≡ self.old.door.most }
@@ -304,6 +310,7 @@ impl Server {
     ) -> Result<(), ServeFault>
         ensures goes { GoesOn R.page N.came N.gone N.wakes N.is_free saved.old.hub saved.new.hub
             net.old net.new self.old.peers self.new.peers }
+        ensures waits { WaitOn self.old.peers self.new.peers }
         ensures fewer { map.len self.new.peers ≤ map.len self.old.peers }
         ensures most { self.new.door.most ≡ self.old.door.most }
         ensures site { IsSameSite saved.old.hub.1 saved.new.hub.1 }

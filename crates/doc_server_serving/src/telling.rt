@@ -2,6 +2,7 @@
 
 ghost use Rattle.std.specs.Prelude.{◌≡◌, ◌<◌, ◌-◌, ◌^◌, false};
 ghost use Rattle.doc_server_network.specs.Networks.{Rests, Stays};
+ghost use Rattle.doc_server_serving.specs.Hearing.{RouseAll};
 ghost use Rattle.doc_server_serving.specs.Wirings.{AreWoken, Gives};
 
 use crate::peers::Peers;
@@ -32,6 +33,7 @@ impl News {
 pub fn wake_told<N: Network>(peers: &mut Peers, net: &mut N) -> News
     ensures all { result.count < 2 ^ 64 - 1 → N.told_all net.new }
     ensures gives { Gives (N.gone net.old) (N.gone net.new) (N.has_ended net.new) peers.old peers.new }
+    ensures rouses { RouseAll peers.old peers.new }
     ensures came { Rests (N.came net.old) (N.came net.new) }
     ensures gone { Rests (N.gone net.old) (N.gone net.new) }
     ensures woken { AreWoken (N.wakes net.old) peers.old → AreWoken (N.wakes net.new) peers.new }
@@ -58,6 +60,7 @@ pub fn wake_told<N: Network>(peers: &mut Peers, net: &mut N) -> News
 fn wake_one<N: Network>(peers: &mut Peers, net: &mut N, news: &mut News) -> bool
     ensures all { result ≡ false → N.told_all net.new }
     ensures gives { Gives (N.gone net.old) (N.gone net.new) (N.has_ended net.new) peers.old peers.new }
+    ensures rouses { RouseAll peers.old peers.new }
     ensures came { Rests (N.came net.old) (N.came net.new) }
     ensures gone { Rests (N.gone net.old) (N.gone net.new) }
     ensures woken { AreWoken (N.wakes net.old) peers.old → AreWoken (N.wakes net.new) peers.new }

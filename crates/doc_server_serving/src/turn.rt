@@ -6,7 +6,7 @@ ghost use Rattle.doc_hub.specs.Worlds.{World};
 ghost use Rattle.doc_server_network.specs.Networks.{Rests, Stays};
 ghost use Rattle.doc_server_network.specs.Crashes.{CrashesLeave, RestoresEither};
 ghost use Rattle.doc_server_network.specs.Saved.{IsAllSaved, IsReady, IsSaved, IsSettled};
-ghost use Rattle.doc_server_serving.specs.Hearing.{HeardAt, SparesAll};
+ghost use Rattle.doc_server_serving.specs.Hearing.{HeardAt, SparesAll, WaitOn};
 ghost use Rattle.doc_server_serving.specs.Sharing.{IsModest, SharesTurn};
 ghost use Rattle.doc_server_serving.specs.Turns.{Turns};
 ghost use Rattle.doc_server_serving.specs.Wirings.{AreWoken, EndAll, Gives, GivesFronts, HaveSent};
@@ -50,6 +50,7 @@ pub fn turn<N: Network, D: Device, R: Renderer + Drop>(
         × SharesTurn ready.now s.run share.old share.new × IsModest ready.now s.run
         × ((k : ℕ) → Contains ready.now k
         → HeardAt k s.run (map.get peers.old k) (map.get peers.new k)) }
+    ensures waits_on { WaitOn peers.old peers.new }
     ensures sent { OnOk result (HaveSent ready.now peers.new) }
     ensures ends { OnOk result (EndAll ready.now peers.new peers.new) }
     ensures waits { OnErr result (GivesFronts (N.gone net.old) (N.gone net.new) peers.old) }
