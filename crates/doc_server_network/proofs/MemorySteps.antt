@@ -1,18 +1,16 @@
 -- Pieces that a read takes off the front of what is left, and numbers that wait to be told of.
-use Rattle.std.proofs.Common.{◌≡◌, ◌≤◌, ◌+◌, ◌-◌, ◌++◌, ◌==◌, ℕ, List, [], ◌∷◌, length, take, drop, Bool, true, false, ◌||◌, refl, sym, ap, subst, ◌∙◌, arith, length-take, eq-eqb}
+use Rattle.std.proofs.Common.{◌≡◌, ◌≤◌, ◌+◌, ◌++◌, ◌==◌, ℕ, List, [], ◌∷◌, length, take, drop, Bool, true, false, ◌||◌, refl, sym, ap, subst, ◌∙◌, arith, length-take, eq-eqb}
 use Rattle.std.proofs.Math.Seq.{take-add, take-append_seam}
-use Rattle.std.proofs.lemmas.List.{take_rest}
 use Rattle.doc_server_network.specs.Memories.{is_among}
 
 taken : (given more : List ℕ) (n : ℕ) → length given ≡ n → take n (given ++ more) ≡ given
 taken given more n len = subst (λ k. take k (given ++ more) ≡ given) len (take-append_seam given more)
 
-pub came_more : (input rest given more : List ℕ) (at n : ℕ) → rest ≡ take (length input - at) (drop at input) → n ≤ length rest
-    → given ≡ take n rest
+pub came_more : (input rest given more : List ℕ) (at n : ℕ) → rest ≡ drop at input → n ≤ length rest → given ≡ take n rest
     → take (at + n) input ≡ take at input ++ take n (given ++ more)
 came_more input rest given more at n is fits same =
     let len : length given ≡ n = omega (arith, ap length same, fits, length-take n rest) in
-    let left : given ≡ take n (drop at input) = same ∙ ap (take n) (is ∙ take_rest input at) in
+    let left : given ≡ take n (drop at input) = same ∙ ap (take n) is in
     take-add at n input ∙ ap (λ l. take at input ++ l) (sym left ∙ sym (taken given more n len))
 
 or_true : (b : Bool) → (b || true) ≡ true

@@ -31,7 +31,8 @@ pub append_none : (known : Option (List ℕ)) → append_known known [] ≡ know
 append_none None = refl
 append_none (Some bytes) = ap Some (append-nil bytes)
 
-pub append_join : (known : Option (List ℕ)) (bytes more : List ℕ) → append_known (append_known known bytes) more ≡ append_known known (bytes ++ more)
+pub append_join : (known : Option (List ℕ)) (bytes more : List ℕ)
+    → append_known (append_known known bytes) more ≡ append_known known (bytes ++ more)
 append_join None bytes more = refl
 append_join (Some front) bytes more = ap Some (append_assoc front bytes more)
 

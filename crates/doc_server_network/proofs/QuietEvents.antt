@@ -53,11 +53,13 @@ module _ (render : Renders) (w v : World) where
   pub pushes : (id : ConnId) (bytes : List ℕ) (said : Result (Unit {0}) PushError) → Happens render w (push_on id bytes) v said
       → IsQuiet w v
   pushes id bytes said happens =
-      of_given push_errors.Memory (world_pushed w id.0 bytes) w v said happens (record { same = record { site = refl; media = refl; puts = refl }; taking = refl })
+      of_given push_errors.Memory (world_pushed w id.0 bytes) w v said happens
+      (record { same = record { site = refl; media = refl; puts = refl }; taking = refl })
 
   pub disconnects : (id : ConnId) (said : Bool) → Happens render w (disconnect_on id) v said → IsQuiet w v
   disconnects id said happens =
-      subst (λ (g : World × Bool). IsQuiet w g.0) happens (record { same = record { site = refl; media = refl; puts = refl }; taking = refl })
+      subst (λ (g : World × Bool). IsQuiet w g.0) happens
+      (record { same = record { site = refl; media = refl; puts = refl }; taking = refl })
 
   pub takes : (takes : Bool) → Happens render w (events.TakePuts takes) v tt → IsSameSite w v
   takes puts happens = subst (IsSameSite w) (sym happens) (record { site = refl; media = refl; puts = refl })

@@ -111,9 +111,11 @@ unless true b is on = is
 unless false b is on = absurd (subst T (sym on) tt)
 
 module _ {D : Type 0} (journal : Journal D) where
-  pub keeps_reserve : (unsaved : Kept) (takes : Bool) → takes_step (Some journal) unsaved takes ≡ true → takes ≡ true → reserve ≤ journal.room
+  pub keeps_reserve : (unsaved : Kept) (takes : Bool) → takes_step (Some journal) unsaved takes ≡ true → takes ≡ true
+      → reserve ≤ journal.room
   keeps_reserve unsaved takes may on =
-      at_most reserve journal.room (unless takes (nat_le reserve journal.room) (first (not takes || nat_le reserve journal.room) (has_room unsaved takes) may) on)
+      at_most reserve journal.room
+      (unless takes (nat_le reserve journal.room) (first (not takes || nat_le reserve journal.room) (has_room unsaved takes) may) on)
 
 line_fits : (room : ℕ) → reserve ≤ room → longest_line ≤ min (room - record_beside) text_limit
 unfolding reserve longest_line text_limit store.text_limit

@@ -107,8 +107,8 @@ module _ (render : Renders) (w v : World) (id : ConnId) (said : Result Step Step
       subst (Counts w v) are_those
       (edits_are_counted render w v (stepped ∷ []) (edit ∷ []) runs (All-cons IsOfPeer stepped [] (id.0, refl) (All-nil IsOfPeer)) made)
 
-  behind : (config : StoreState) (texts : List (List ℕ)) (edits : List SiteEdit) → TurnIsRestored → IsOfCalls w.site → IsApart w.site w.media
-      → IsRestored config (texts ++ lines_of edits ∷ []) w
+  behind : (config : StoreState) (texts : List (List ℕ)) (edits : List SiteEdit) → TurnIsRestored → IsOfCalls w.site
+      → IsApart w.site w.media → IsRestored config (texts ++ lines_of edits ∷ []) w
       → IsRestored config (texts ++ (lines_of edits ++ lines_of (option_to_list edit)) ∷ []) v
   behind config texts edits law of_calls apart is =
       as_one_record config texts v edits (lines_of (option_to_list edit))
@@ -138,7 +138,8 @@ module _ (render : Renders) (w v : World) (id : ConnId) (said : Result Step Step
       (restores : TurnIsRestored) (stays_so : TurnStaysOfCalls) (old new : Kept)
       (adds : Adds old new (option_to_list edit)) where
     step_in : (journal : Journal D) (config : StoreState) (begin : World) → takes_step (Some journal) old w.takes_puts ≡ true
-        → IsSavedIn seen may_leave failed stale config begin journal old w → IsSavedIn seen may_leave failed stale config begin journal new v
+        → IsSavedIn seen may_leave failed stale config begin journal old w
+        → IsSavedIn seen may_leave failed stale config begin journal new v
     step_in journal config begin may is = record {
       texts = is.texts;
       is_open = is.is_open;
@@ -150,8 +151,8 @@ module _ (render : Renders) (w v : World) (id : ConnId) (said : Result Step Step
             lines ++ lines_of (option_to_list edit),
             all,
             subst (λ n. Waits config is.texts journal.room n v (lines ++ lines_of (option_to_list edit))) (sym adds.0)
-                (waits_behind config is.texts journal.room old.most lines restores is.of_calls is.apart is.limit (keeps_reserve journal old w.takes_puts may)
-                waits),
+                (waits_behind config is.texts journal.room old.most lines restores is.of_calls is.apart is.limit
+                (keeps_reserve journal old w.takes_puts may) waits),
           );
       of_calls = stays_so render w v (stepped ∷ []) is.of_calls runs of_server;
       apart = media_stand_apart.apart render w v (stepped ∷ []) is.apart runs;

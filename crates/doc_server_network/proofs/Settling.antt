@@ -160,8 +160,8 @@ module _ {D : Type 0} (seen : D → Option (List ℕ)) (may_leave : D → List �
       → IfSome o (λ j. Saved begin j unsaved w) → Saved w after behind w
   settles begin unsaved behind w o journal after lines text there whole kept some fits same opens room anew is =
       subst (λ k. Saved w after k w) (sym anew)
-      (written begin unsaved w journal after lines whole kept (of_this (λ j. Saved begin j unsaved w) o journal there is) (some_there lines some)
-      fits
+      (written begin unsaved w journal after lines whole kept (of_this (λ j. Saved begin j unsaved w) o journal there is)
+      (some_there lines some) fits
       (subst (λ l. (texts : List (List ℕ)) → IsOpen seen may_leave failed stale journal texts
       → IsOpen seen may_leave failed stale after (texts ++ l ∷ [])) same opens)
       (subst (λ l. after.room + (length l + record_beside) ≡ journal.room) same room))
@@ -208,7 +208,8 @@ module _ {D : Type 0} (seen : D → Option (List ℕ)) (may_leave : D → List �
       → IfSome o (λ j. Saved begin j unsaved w) → CrashesLeave seen moment left_since (Restores config begin) o (Some after)
   crashes_to_begin moment left_since begin unsaved w v o journal after there leaves is =
       subst (λ p. CrashesLeave seen moment left_since (Restores config begin) p (Some after)) (sym there)
-      (leaves_begin_site begin unsaved w v journal after (of_this (λ j. Saved begin j unsaved w) o journal there is) moment left_since leaves)
+      (leaves_begin_site begin unsaved w v journal after (of_this (λ j. Saved begin j unsaved w) o journal there is) moment left_since
+      leaves)
 
   pub removals_may_come : (begin : World) (unsaved : Kept) (w : World) (o : Option (Journal D)) → IfSome o (λ j. Saved begin j unsaved w)
       → w.takes_puts ≡ false → unsaved.is_whole ≡ true → takes_step o unsaved w.takes_puts ≡ true
@@ -229,8 +230,10 @@ module _ {D : Type 0} (seen : D → Option (List ℕ)) (may_leave : D → List �
 
 module _ {D : Type 0} (seen : D → Option (List ℕ)) (may_leave : D → List ℕ → Type 0) (failed : D → Bool) (stale : D → ℕ → Type 0)
     (o : Option (Journal D)) (unsaved : Kept) (journal after : Journal D) (there : o ≡ Some journal)
-    (ready : IfSome o (λ j. ((texts : List (List ℕ)) × IsOpen seen may_leave failed stale j texts) × (unsaved.most ≤ j.room - record_beside))) where
-  pub ready_here : ((texts : List (List ℕ)) × IsOpen seen may_leave failed stale journal texts) × (unsaved.most ≤ journal.room - record_beside)
+    (ready : IfSome o (λ j. ((texts : List (List ℕ)) × IsOpen seen may_leave failed stale j texts)
+    × (unsaved.most ≤ j.room - record_beside))) where
+  pub ready_here : ((texts : List (List ℕ)) × IsOpen seen may_leave failed stale journal texts)
+      × (unsaved.most ≤ journal.room - record_beside)
   ready_here =
       subst (λ p. IfSome p (λ j. ((texts : List (List ℕ)) × IsOpen seen may_leave failed stale j texts)
       × (unsaved.most ≤ j.room - record_beside))) there ready

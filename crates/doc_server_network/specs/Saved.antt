@@ -13,7 +13,7 @@ use Rattle.doc_server_listen.specs.Counting.{count_in}
 use Rattle.doc_server_listen.specs.Edits.{Kept, has_room, longest_removal}
 use Rattle.doc_server_network.specs.declared.saved_hub.SavedHub.{SavedHub}
 use Rattle.doc_server_script.specs.PageLines.{lines_of}
-use Rattle.doc_server_settling.specs.Reserves.{removal_most, reserve, used}
+use Rattle.doc_server_settling.specs.Reserves.{removal_most, reserve, takes_removals, used}
 use Rattle.doc_store.specs.Store.{StoreState, page_limit}
 use Rattle.doc_store.specs.declared.site_edit.SiteEdit.{SiteEdit}
 
@@ -45,6 +45,16 @@ abbrev pub TakesByRoom : {D : Type 0} → Renders → Option (Journal D) → Wor
 TakesByRoom render None w v = v ≡ w
 TakesByRoom render (Some journal) w v = Happens render w (events.TakePuts (nat_le reserve journal.room)) v tt
 
+-- whether the journal, where there is one, has room for the removal of each page
+abbrev pub takes_all_removals : {D : Type 0} → Option (Journal D) → World → Bool
+takes_all_removals None w = true
+takes_all_removals (Some journal) w = takes_removals journal.room w
+
+-- there is a journal, and its device has failed
+abbrev pub HasFailed : {D : Type 0} → (D → Bool) → Option (Journal D) → Type 0
+HasFailed failed None = ⊥
+HasFailed failed (Some journal) = failed journal.device ≡ true
+
 -- ---- what is saved
 
 -- The lines of some edits: behind the records of these texts they give the site of a world. Once they are written, too, as far as a record
@@ -65,7 +75,8 @@ module _ {D : Type 0} (seen : D → Option (List ℕ)) (may_leave : D → List �
     pub texts : List (List ℕ)
     pub is_open : IsOpen seen may_leave failed stale journal texts
     pub began : IsRestored config texts begin
-    pub waits : unsaved.is_whole ≡ true → (lines : List ℕ) × (unsaved.lines ≡ Some lines) × Waits config texts journal.room unsaved.most w lines
+    pub waits : unsaved.is_whole ≡ true → (lines : List ℕ) × (unsaved.lines ≡ Some lines)
+        × Waits config texts journal.room unsaved.most w lines
     pub of_calls : IsOfCalls w.site
     pub apart : IsApart w.site w.media
     pub limit : count_in w ≤ page_limit

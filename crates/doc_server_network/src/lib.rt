@@ -1,7 +1,7 @@
 //! Networks: connections by their numbers, and calls that never wait but one. Contracts say what came and what was handed over on each
-//! connection, where that is known. Bytes are handed over by leave of a hub whose edits are saved: it is one value with its journal and the
-//! edits that aren't in that yet, so that no step is made past them, and no byte is handed over before they are on the device. A network may
-//! be watched by somebody who has no say in it.
+//! connection, where that is known. Bytes are handed over by leave of a hub whose edits are saved: it is one value with its journal and
+//! the edits that aren't in that yet, so that no step is made past them, and no byte is handed over before they are on the device. A
+//! network may be watched by somebody who has no say in it.
 #![tactic(auto)]
 
 pub mod accepted;

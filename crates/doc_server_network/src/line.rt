@@ -1,7 +1,8 @@
 //! A connection in memory.
 
-ghost use Rattle.std.specs.Prelude.{◌≡◌, ◌≤◌, ◌++◌, [], Ok, true, length, take, IfOk, OnErr};
-ghost use Rattle.doc_server_network.specs.Memories.{came_on, gone_on};
+ghost use Rattle.std.specs.Prelude.{◌≡◌, ◌≤◌, ◌↔◌, ◌++◌, Ok, true, false, not, length, take, drop, IfOk, IsErr, OnErr, OnOk, if◌then◌else◌};
+ghost use Rattle.doc_server_network.specs.Memories.{IsBegun, IsBehindWrite};
+ghost use Rattle.doc_server_network.specs.Memories.{behind_all, behind_read, breaks, called, came_on, ended, gone_on, is_pause, let_go, over, reads, writes};
 ghost use Rattle.doc_server_network.specs.Networks.{came_len, took_len};
 
 use crate::came::Came;
@@ -25,8 +26,7 @@ pub struct Line {
 impl Line {
     /// A connection on which nothing has passed.
     pub fn new(heap: Heap, script: Script) -> Line
-        ensures came { came_on result ≡ [] }
-        ensures gone { gone_on result ≡ [] }
+        ensures { IsBegun script result }
     {
         Line {
             script,
@@ -41,10 +41,10 @@ impl Line {
 
     /// Counts a call, and answers whether it may move bytes.
     fn begin(&mut self) -> Result<bool, NetFault>
-        ensures came { came_on self.new ≡ came_on self.old }
-        ensures gone { gone_on self.new ≡ gone_on self.old }
-        ensures fails { OnErr result (self.new.is_over ≡ true) }
-        ensures ended { self.old.is_over ≡ true → self.new.is_over ≡ true }
+        ensures breaks { IsErr result ↔ (breaks self.old ≡ true) }
+        ensures moves { IfOk result (λ may. may ≡ not (is_pause self.old)) }
+        ensures called { OnOk result (self.new ≡ called self.old) }
+        ensures fails { OnErr result (self.new ≡ over self.old) }
     {
         if self.is_broken() {
             self.is_over = true;
@@ -59,19 +59,15 @@ impl Line {
     pub fn read(&mut self, buf: &mut [u8]) -> Result<Came, NetFault>
         ensures room { length buf.new ≡ length buf.old }
         ensures bound { came_len result ≤ length buf.new }
+        ensures breaks { IsErr result ↔ (breaks self.old ≡ true) }
+        ensures gives { IfOk result (λ came. came ≡ reads (length buf.old) self.old) }
         ensures came { came_on self.new ≡ came_on self.old ++ take (came_len result) buf.new }
-        ensures gone { gone_on self.new ≡ gone_on self.old }
-        ensures ends { IfOk result (λ came. came ≡ Came.End → self.new.is_over ≡ true) }
-        ensures fails { OnErr result (self.new.is_over ≡ true) }
-        ensures ended { self.old.is_over ≡ true → self.new.is_over ≡ true }
+        ensures behind { self.new ≡ behind_read result self.old }
     {
         if !self.begin()? {
             return Ok(Came::Nothing);
         }
-        let Some(rest) = self.script.input.get().get(self.at..) else {
-            self.is_over = true;
-            return Err(NetFault);
-        };
+        let rest = rest_of(self.script.input.get(), self.at);
         if rest.is_empty() {
             return Ok(self.behind_the_last());
         }
@@ -83,11 +79,8 @@ impl Line {
 
     /// What a read gives where all has come.
     fn behind_the_last(&mut self) -> Came
-        ensures none { came_len (Ok result) ≡ 0 }
-        ensures came { came_on self.new ≡ came_on self.old }
-        ensures gone { gone_on self.new ≡ gone_on self.old }
-        ensures ends { result ≡ Came.End → self.new.is_over ≡ true }
-        ensures ended { self.old.is_over ≡ true → self.new.is_over ≡ true }
+        ensures gives { result ≡ behind_all self.old }
+        ensures over { self.new ≡ (if self.old.script.ends then over self.old else self.old) }
     {
         if !self.script.ends {
             return Came::Nothing;
@@ -99,10 +92,10 @@ impl Line {
     /// Hands over some of the bytes. Without memory for them the call fails.
     pub fn write(&mut self, buf: &[u8]) -> Result<usize, NetFault>
         ensures bound { took_len result ≤ length buf.now }
-        ensures came { came_on self.new ≡ came_on self.old }
+        ensures breaks { breaks self.old ≡ true → IsErr result }
+        ensures takes { IfOk result (λ count. count ≡ writes (length buf.now) self.old) }
         ensures gone { gone_on self.new ≡ gone_on self.old ++ take (took_len result) buf.now }
-        ensures fails { OnErr result (self.new.is_over ≡ true) }
-        ensures ended { self.old.is_over ≡ true → self.new.is_over ≡ true }
+        ensures behind { IsBehindWrite result self.old self.new }
     {
         if !self.begin()? {
             return Ok(0);
@@ -119,43 +112,43 @@ impl Line {
 
     /// Ends what is written.
     pub fn end(&mut self)
-        ensures came { came_on self.new ≡ came_on self.old }
-        ensures gone { gone_on self.new ≡ gone_on self.old }
-        ensures ended { self.old.is_over ≡ true → self.new.is_over ≡ true }
+        ensures { self.new ≡ ended self.old }
     {
         self.has_ended = true;
     }
 
     /// Lets the connection go. What passed on it stays known.
     pub fn close(&mut self)
-        ensures came { came_on self.new ≡ came_on self.old }
-        ensures gone { gone_on self.new ≡ gone_on self.old }
-        ensures ended { self.old.is_over ≡ true → self.new.is_over ≡ true }
+        ensures { self.new ≡ let_go self.old }
     {
         self.is_closed = true;
     }
 
     /// A call on it fails.
     pub fn fail(&mut self)
-        ensures came { came_on self.new ≡ came_on self.old }
-        ensures gone { gone_on self.new ≡ gone_on self.old }
-        ensures ended { self.new.is_over ≡ true }
+        ensures { self.new ≡ over self.old }
     {
         self.is_over = true;
     }
 
     /// Whether the next read or write fails.
-    pub fn is_broken(&self) -> bool {
+    pub fn is_broken(&self) -> bool
+        ensures { result ≡ breaks self.now }
+    {
         self.is_closed || self.script.calls == 0
     }
 
     /// Whether what is written was ended.
-    pub fn has_ended(&self) -> bool {
+    pub fn has_ended(&self) -> bool
+        ensures { result ≡ self.now.has_ended }
+    {
         self.has_ended
     }
 
     /// Whether it was let go.
-    pub fn is_closed(&self) -> bool {
+    pub fn is_closed(&self) -> bool
+        ensures { result ≡ self.now.is_closed }
+    {
         self.is_closed
     }
 
@@ -164,5 +157,15 @@ impl Line {
         ensures { result.now ≡ gone_on self.now }
     {
         self.output.as_slice()
+    }
+}
+
+/// What stands behind the first so many bytes.
+fn rest_of(input: &[u8], at: usize) -> &[u8]
+    ensures { result.now ≡ drop at input.now }
+{
+    match input.get(at..) {
+        Some(rest) => rest,
+        None => &[],
     }
 }

@@ -1,8 +1,10 @@
 //! A network in memory, for tests: what comes on each connection is known, and what is handed over is kept.
 
-ghost use Rattle.std.specs.Prelude.{◌≡◌, ℕ, Some};
-ghost use Rattle.doc_server_network.specs.Memories.{IsUntouched, has_none, memory_came, memory_ended, memory_gone, memory_wakes};
-ghost use Rattle.doc_server_network.specs.Networks.{Rests, Stays, StaysBut};
+ghost use Rattle.std.specs.Prelude.{◌≡◌, ◌≤◌, ◌⊎◌, ◌↔◌, ◌++◌, ◌∷◌, [], ℕ, Some, None, drop, is_some, length, option_map, take, IfOk, IsErr, OnErr, OnOk};
+ghost use Rattle.doc_server_network.specs.Memories.{Changes, HasLine, IsAcceptedOf, IsBegun, IsCalled, IsLineOf, IsNew, IsSameButGuests, IsSameButLines, IsUntouched, KeepsDoor};
+ghost use Rattle.doc_server_network.specs.Memories.{behind_read, breaks, calls_at, ended, found, guests_of, has_one, let_go, line_at, over, reads, told_next, waited, waits_of, without_next, writes};
+ghost use Rattle.doc_server_network.specs.Memories.{has_none, memory_came, memory_ended, memory_gone, memory_wakes};
+ghost use Rattle.doc_server_network.specs.Networks.{came_len, took_len, Moves, Rests, Stays, StaysBut, TellsLoss, TellsOf};
 
 use crate::accepted::Accepted;
 use crate::came::Came;
@@ -39,7 +41,8 @@ pub struct MemoryNetwork {
 impl MemoryNetwork {
     /// A network on which nothing has passed and nobody waits. Behind so many waits standard input has ended, and the next wait fails.
     pub fn new(heap: Heap, waits: u64) -> MemoryNetwork
-        ensures { (k : ℕ) → IsUntouched result k }
+        ensures untouched { (k : ℕ) → IsUntouched result k }
+        ensures begun { IsNew waits result }
     {
         MemoryNetwork {
             heap,
@@ -55,6 +58,9 @@ impl MemoryNetwork {
 
     /// One more who waits to be accepted, behind the others.
     pub fn invite(&mut self, guest: Guest) -> Result<(), Memory>
+        ensures last { OnOk result (guests_of self.new ≡ guests_of self.old ++ guest ∷ []) }
+        ensures refused { OnErr result (guests_of self.new ≡ guests_of self.old) }
+        ensures rests { IsSameButGuests self.old self.new }
         ensures came { Rests (memory_came self.old) (memory_came self.new) }
         ensures gone { Rests (memory_gone self.old) (memory_gone self.new) }
         ensures free { Stays (has_none self.old) (has_none self.new) }
@@ -75,7 +81,9 @@ impl MemoryNetwork {
     }
 
     /// Whether the connection of this number was let go.
-    pub fn is_closed(&self, id: u64) -> bool {
+    pub fn is_closed(&self, id: u64) -> bool
+        ensures { result ≡ has_one (λ l. l.is_closed) (line_at self.now id) }
+    {
         match self.lines.get(&id) {
             Some(line) => line.is_closed(),
             None => false,
@@ -83,7 +91,9 @@ impl MemoryNetwork {
     }
 
     /// Whether what was written under this number was ended.
-    pub fn has_ended(&self, id: u64) -> bool {
+    pub fn has_ended(&self, id: u64) -> bool
+        ensures { result ≡ has_one (λ l. l.has_ended) (line_at self.now id) }
+    {
         match self.lines.get(&id) {
             Some(line) => line.has_ended(),
             None => false,
@@ -91,7 +101,9 @@ impl MemoryNetwork {
     }
 
     /// Whether the next call on the connection of this number fails.
-    fn is_broken(&self, id: u64) -> bool {
+    fn is_broken(&self, id: u64) -> bool
+        ensures { result ≡ has_one breaks (line_at self.now id) }
+    {
         match self.lines.get(&id) {
             Some(line) => line.is_broken(),
             None => false,
@@ -101,6 +113,9 @@ impl MemoryNetwork {
     /// Keeps a peer under this number.
     fn keep(&mut self, id: u64, script: Script) -> Accepted
         requires { has_none self.old id }
+        ensures comes_to { (result ≡ Accepted.Peer) ⊎ (result ≡ Accepted.Failed) }
+        ensures begun { result ≡ Accepted.Peer → HasLine (IsBegun script) (line_at self.new id) }
+        ensures door { KeepsDoor self.old self.new }
         ensures wakes { Stays (memory_wakes self.old) (memory_wakes self.new) }
         ensures arms { result ≡ Accepted.Peer → memory_wakes self.new id }
         ensures came { Rests (memory_came self.old) (memory_came self.new) }
@@ -122,6 +137,8 @@ impl MemoryNetwork {
 
     /// A call on the connection of this number fails.
     fn fail(&mut self, id: u64) -> NetFault
+        ensures over { Changes id over self.old self.new }
+        ensures rests { IsSameButLines self.old self.new }
         ensures fails { memory_ended self.new id }
         ensures ended { Stays (memory_ended self.old) (memory_ended self.new) }
         ensures wakes { Stays (memory_wakes self.old) (memory_wakes self.new) }
@@ -151,7 +168,11 @@ impl Network for MemoryNetwork {
 
     ghost told_all = { IsAllTold };
 
-    fn wait(&mut self, _most: Duration) -> Result<(), NetFault> {
+    fn wait(&mut self, _most: Duration) -> Result<(), NetFault>
+        ensures fails { IsErr result ↔ (waits_of self.old ≡ 0) }
+        ensures found { OnOk result (self.new ≡ waited self.old) }
+        ensures rests { OnErr result (self.new ≡ self.old) }
+    {
         let Some(left) = self.waits.checked_sub(1) else {
             return Err(NetFault);
         };
@@ -162,7 +183,19 @@ impl Network for MemoryNetwork {
         Ok(())
     }
 
-    fn told(&mut self) -> Option<Told> {
+    fn told(&mut self) -> Option<Told>
+        ensures next { result ≡ told_next self.old }
+        ensures left { found self.new ≡ without_next (found self.old) }
+        ensures door { KeepsDoor self.old self.new }
+        ensures wakes { (k : ℕ) → (TellsOf result k → ⊥) → memory_wakes self.old k
+            → memory_wakes self.new k }
+        ensures all { result ≡ None → IsAllTold self.new }
+        ensures lost { (k : ℕ) → TellsLoss result k → memory_ended self.new k }
+        ensures came { Rests (memory_came self.old) (memory_came self.new) }
+        ensures gone { Rests (memory_gone self.old) (memory_gone self.new) }
+        ensures ended { Stays (memory_ended self.old) (memory_ended self.new) }
+        ensures free { Stays (has_none self.old) (has_none self.new) }
+    {
         if self.is_knocked {
             self.is_knocked = false;
             return Some(Told::Door);
@@ -171,8 +204,11 @@ impl Network for MemoryNetwork {
             self.is_ending = false;
             return Some(Told::InputEnds);
         }
-        self.due = self.due.checked_sub(1)?;
+        if self.due == 0 {
+            return None;
+        }
         let id = self.waking.pop_front()?;
+        self.due -= 1;
         if self.is_broken(id) {
             let _ = self.fail(id);
             return Some(Told::Connection { id, is_gone: true });
@@ -180,7 +216,21 @@ impl Network for MemoryNetwork {
         Some(Told::Connection { id, is_gone: false })
     }
 
-    fn accept(&mut self, id: u64) -> Accepted {
+    fn accept(&mut self, id: u64) -> Accepted
+        requires { has_none self.old id }
+        ensures comes_to { IsAcceptedOf (guests_of self.old) result }
+        ensures line { result ≡ Accepted.Peer
+            → IsLineOf (guests_of self.old) (line_at self.new id) }
+        ensures left { guests_of self.new ≡ drop 1 (guests_of self.old) }
+        ensures waits { waits_of self.new ≡ waits_of self.old }
+        ensures wakes { StaysBut id (memory_wakes self.old) (memory_wakes self.new) }
+        ensures arms { result ≡ Accepted.Peer → memory_wakes self.new id }
+        ensures came { Rests (memory_came self.old) (memory_came self.new) }
+        ensures gone { Rests (memory_gone self.old) (memory_gone self.new) }
+        ensures ended { StaysBut id (memory_ended self.old) (memory_ended self.new) }
+        ensures free { StaysBut id (has_none self.old) (has_none self.new) }
+        ensures refused { (result ≡ Accepted.Peer → ⊥) → has_none self.new id }
+    {
         match self.guests.pop_front() {
             Some(Guest::Peer(script)) => self.keep(id, script),
             Some(Guest::Leaves) => Accepted::Failed,
@@ -189,7 +239,24 @@ impl Network for MemoryNetwork {
         }
     }
 
-    fn read(&mut self, id: u64, buf: &mut [u8]) -> Result<Came, NetFault> {
+    fn read(&mut self, id: u64, buf: &mut [u8]) -> Result<Came, NetFault>
+        ensures gives { IfOk result (λ came. Some came
+            ≡ calls_at (reads (length buf.old)) (line_at self.old id)) }
+        ensures behind { line_at self.new id
+            ≡ option_map (behind_read result) (line_at self.old id) }
+        ensures door { KeepsDoor self.old self.new }
+        ensures room { length buf.new ≡ length buf.old }
+        ensures bound { came_len result ≤ length buf.new }
+        ensures ends { IfOk result (λ came. came ≡ Came.End → memory_ended self.new id) }
+        ensures fails { OnErr result (memory_ended self.new id) }
+        ensures wakes { StaysBut id (memory_wakes self.old) (memory_wakes self.new) }
+        ensures arms { IfOk result (λ came. came ≡ Came.Nothing → memory_wakes self.new id) }
+        ensures came { Moves (memory_came self.old) (memory_came self.new) id
+            (take (came_len result) buf.new) }
+        ensures gone { Rests (memory_gone self.old) (memory_gone self.new) }
+        ensures ended { Stays (memory_ended self.old) (memory_ended self.new) }
+        ensures free { Stays (has_none self.old) (has_none self.new) }
+    {
         if self.waking.reserve(1).is_err() {
             return Err(self.fail(id));
         }
@@ -203,7 +270,21 @@ impl Network for MemoryNetwork {
         Ok(came)
     }
 
-    fn write(&mut self, _permit: &Permit<'_>, id: u64, buf: &[u8]) -> Result<usize, NetFault> {
+    fn write(&mut self, _permit: &Permit<'_>, id: u64, buf: &[u8]) -> Result<usize, NetFault>
+        ensures takes { IfOk result (λ count. Some count
+            ≡ calls_at (writes (length buf.now)) (line_at self.old id)) }
+        ensures called { OnOk result (IsCalled (line_at self.old id) (line_at self.new id)) }
+        ensures door { KeepsDoor self.old self.new }
+        ensures bound { took_len result ≤ length buf.now }
+        ensures fails { OnErr result (memory_ended self.new id) }
+        ensures wakes { StaysBut id (memory_wakes self.old) (memory_wakes self.new) }
+        ensures arms { IfOk result (λ count. count ≡ 0 → memory_wakes self.new id) }
+        ensures gone { Moves (memory_gone self.old) (memory_gone self.new) id
+            (take (took_len result) buf.now) }
+        ensures came { Rests (memory_came self.old) (memory_came self.new) }
+        ensures ended { Stays (memory_ended self.old) (memory_ended self.new) }
+        ensures free { Stays (has_none self.old) (has_none self.new) }
+    {
         if self.waking.reserve(1).is_err() {
             return Err(self.fail(id));
         }
@@ -217,7 +298,16 @@ impl Network for MemoryNetwork {
         Ok(count)
     }
 
-    fn end(&mut self, id: u64) -> bool {
+    fn end(&mut self, id: u64) -> bool
+        ensures done { result ≡ is_some (line_at self.old id) }
+        ensures ends { Changes id ended self.old self.new }
+        ensures rests { IsSameButLines self.old self.new }
+        ensures wakes { Stays (memory_wakes self.old) (memory_wakes self.new) }
+        ensures came { Rests (memory_came self.old) (memory_came self.new) }
+        ensures gone { Rests (memory_gone self.old) (memory_gone self.new) }
+        ensures ended { Stays (memory_ended self.old) (memory_ended self.new) }
+        ensures free { Stays (has_none self.old) (has_none self.new) }
+    {
         let Some(line) = self.lines.get_mut(&id) else {
             return false;
         };
@@ -225,7 +315,15 @@ impl Network for MemoryNetwork {
         true
     }
 
-    fn close(&mut self, id: u64) {
+    fn close(&mut self, id: u64)
+        ensures lets_go { Changes id let_go self.old self.new }
+        ensures rests { IsSameButLines self.old self.new }
+        ensures wakes { StaysBut id (memory_wakes self.old) (memory_wakes self.new) }
+        ensures came { Rests (memory_came self.old) (memory_came self.new) }
+        ensures gone { Rests (memory_gone self.old) (memory_gone self.new) }
+        ensures ended { Stays (memory_ended self.old) (memory_ended self.new) }
+        ensures free { Stays (has_none self.old) (has_none self.new) }
+    {
         let Some(line) = self.lines.get_mut(&id) else {
             return;
         };

@@ -1,6 +1,6 @@
 //! A hub, the journal of its edits, and the lines of those that aren't in it yet.
 
-ghost use Rattle.std.specs.Prelude.{◌≡◌, List, ℕ, false, true, None, Some, Ok, Err, IfOk, IfErr, IfSome, OnErr, OnOk, option_copied, option_map};
+ghost use Rattle.std.specs.Prelude.{◌≡◌, List, ℕ, false, true, None, Some, Ok, Err, IfOk, IfErr, IsErrOf, IfSome, OnErr, OnOk, option_copied, option_map};
 ghost use Rattle.std.specs.FinMap as map;
 ghost use Rattle.doc_hub.specs.Runs.{Happens};
 ghost use Rattle.doc_hub.specs.Worlds.{IsApart, World};
@@ -9,7 +9,7 @@ ghost use Rattle.doc_hub_events.specs.declared.event.Event.TheVariants as events
 ghost use Rattle.doc_server_journal.specs.Journals.{IsOpen};
 ghost use Rattle.doc_server_kept.specs.KeptTurns.{IsOfCalls, IsRestored, TurnIsRestored, TurnStaysOfCalls};
 ghost use Rattle.doc_server_network.specs.Crashes.{CrashesLeave, OfBoth, Restores, RestoresEither, StaleIsBehind};
-ghost use Rattle.doc_server_network.specs.Saved.{IsAllSaved, IsReady, IsSaved, IsSettled, StaysSaved, TakesByRoom, may_step, no_lines};
+ghost use Rattle.doc_server_network.specs.Saved.{HasFailed, IsAllSaved, IsReady, IsSaved, IsSettled, StaysSaved, TakesByRoom, may_step, no_lines, takes_all_removals};
 ghost use Rattle.doc_server_settling.specs.Reserves.{HasRoomToRemove};
 ghost use Rattle.doc_store.specs.Store.{StoreState};
 
@@ -182,7 +182,8 @@ impl<D: Device, R: Renderer + Drop> SavedHub<D, R> {
 
     /// Whether the journal has room for the removal of each page, so that turns have room whatever comes, where there is one.
     pub fn has_room_to_remove(&self) -> bool
-        ensures { result ≡ true → IfSome self.now.journal
+        ensures exact { result ≡ takes_all_removals self.now.journal self.now.hub.1 }
+        ensures enough { result ≡ true → IfSome self.now.journal
             (λ journal. HasRoomToRemove journal.room self.now.hub.1) }
     {
         match &self.journal {
@@ -221,6 +222,8 @@ impl<D: Device, R: Renderer + Drop> SavedHub<D, R> {
             → IsSaved D.seen D.may_leave D.failed D.stale config begin self.old
             → OnOk result (IsSettled D.seen D.may_leave D.failed D.stale config self.new) }
         ensures all { OnOk result (IsAllSaved self.new) }
+        ensures failed { IsErrOf result TurnFault.CannotWrite
+            → HasFailed D.failed self.new.journal }
         ensures hub { self.new.hub ≡ self.old.hub }
         ensures rests { IsAllSaved self.old → self.new ≡ self.old }
         ensures any_moment { (config : StoreState) (begin : World)
@@ -258,6 +261,8 @@ impl<D: Device, R: Renderer + Drop> SavedHub<D, R> {
             → OnOk result (may_step self.new ≡ true) }
         ensures taken { OnOk result (TakesByRoom (R.page self.old.hub.0) self.new.journal
             self.old.hub.1 self.new.hub.1) }
+        ensures failed { OnErr result (HasFailed D.failed self.new.journal) }
+        ensures cannot_write { IfErr result (λ e. e ≡ TurnFault.CannotWrite) }
         ensures rests { OnErr result (self.new.hub.1 ≡ self.old.hub.1) }
         ensures same { R.page self.new.hub.0 ≡ R.page self.old.hub.0 }
         ensures any_moment { (config : StoreState) (begin : World)

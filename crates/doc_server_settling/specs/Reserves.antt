@@ -1,5 +1,5 @@
 -- The room that a journal keeps for records to come. All of this is this project's choice.
-use Rattle.std.specs.Prelude.{◌≡◌, ◌≤◌, ℕ, ◌+◌, ◌*◌, ◌-◌, List, [], ◌∷◌, length, true, false, Some, min}
+use Rattle.std.specs.Prelude.{◌≡◌, ◌≤◌, ℕ, ◌+◌, ◌*◌, ◌-◌, List, [], ◌∷◌, length, Bool, true, false, ◌&&◌, nat_le, Some, min}
 use Rattle.doc_hub.specs.Worlds.{World}
 use Rattle.doc_server_journal.specs.Journals.{record_beside}
 use Rattle.doc_server_journal_records.specs.Records.{text_limit}
@@ -25,6 +25,10 @@ removal_most = longest_removal + record_beside
 -- No more pages stand than may, and there is room for a record with the removal of each of them, and for one more.
 abbrev pub HasRoomToRemove : ℕ → World → Type 0
 HasRoomToRemove room w = (count_in w ≤ page_limit) × ((count_in w + 1) * removal_most ≤ room)
+
+-- whether that is so
+abbrev pub takes_removals : ℕ → World → Bool
+takes_removals room w = nat_le (count_in w) page_limit && nat_le ((count_in w + 1) * removal_most) room
 
 -- the same, and the reserve while puts are taken
 abbrev pub HasRoomFor : ℕ → World → Type 0

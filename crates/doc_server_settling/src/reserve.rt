@@ -1,12 +1,12 @@
 //! The room that a journal keeps for records to come.
 
-ghost use Rattle.std.specs.Prelude.{◌≡◌, ◌≤◌, List, ℕ, true, nat_le, IfSome, OnErr, OnOk};
+ghost use Rattle.std.specs.Prelude.{◌≡◌, ◌≤◌, List, ℕ, true, nat_le, IfErr, IfSome, OnErr, OnOk};
 ghost use Rattle.doc_hub.specs.Runs.{Happens};
 ghost use Rattle.doc_hub_events.specs.declared.event.Event.TheVariants as events;
 ghost use Rattle.doc_server_journal.specs.Devices.{AreBehind, LeavesOnly};
 ghost use Rattle.doc_server_journal.specs.Journals.{IsOpen};
 ghost use Rattle.doc_server_journal_records.specs.Readings.{ReadsAs};
-ghost use Rattle.doc_server_settling.specs.Reserves.{HasRoomFor, HasRoomToRemove, reserve};
+ghost use Rattle.doc_server_settling.specs.Reserves.{HasRoomFor, HasRoomToRemove, reserve, takes_removals};
 
 use crate::fault::TurnFault;
 use doc_hub::hub::Hub;
@@ -30,7 +30,8 @@ const REMOVAL_MOST: usize = 808 + RECORD_BESIDE;
 /// journal that has lost the zeros behind its records lacks it where the disk is full, and isn't served: its turns would have no room.
 #[tactic(auto, unfolding(doc_store::specs::Store::page_limit, doc_server_listen::specs::Edits::longest_removal, doc_server_script::specs::LineLengths::path_limit))]
 pub fn has_room_to_remove<D: Device, R: Renderer + Drop>(journal: &Journal<D>, hub: &Hub<R>) -> bool
-    ensures { result ≡ true → HasRoomToRemove journal.now.room hub.now.1 }
+    ensures exact { result ≡ takes_removals journal.now.room hub.now.1 }
+    ensures enough { result ≡ true → HasRoomToRemove journal.now.room hub.now.1 }
 {
     let pages = hub.len();
     pages <= PAGE_LIMIT && (pages + 1) * REMOVAL_MOST <= journal.room
@@ -61,6 +62,8 @@ pub fn keep_reserve<D: Device, R: Renderer + Drop>(
     ensures no_less { OnOk result (journal.old.room ≤ journal.new.room) }
     ensures taken { OnOk result (Happens (R.page hub.old.0) hub.old.1
         (events.TakePuts (nat_le reserve journal.new.room)) hub.new.1 tt) }
+    ensures failed { OnErr result (D.failed journal.new.device ≡ true) }
+    ensures cannot_write { IfErr result (λ e. e ≡ TurnFault.CannotWrite) }
     ensures rests { OnErr result (hub.new.1 ≡ hub.old.1) }
     ensures same { R.page hub.new.0 ≡ R.page hub.old.0 }
     ensures enough { HasRoomToRemove journal.old.room hub.old.1

@@ -7,4 +7,5 @@ returns-clause-saved g c =
     λ config begin is.
     stays g.D.Device.seen g.D.Device.may_leave g.D.Device.failed g.D.Device.stale config begin c.args.self.now.journal
     c.args.self.now.unsaved c.args.self.now.hub.1 c.disconnect.new.self.1
-    (disconnects (g.R.Renderer.page c.args.self.now.hub.0) c.args.self.now.hub.1 c.disconnect.new.self.1 c.args.id c.disconnect.result c.disconnect.ensures.world) is
+    (disconnects (g.R.Renderer.page c.args.self.now.hub.0) c.args.self.now.hub.1 c.disconnect.new.self.1 c.args.id
+    c.disconnect.result c.disconnect.ensures.world) is

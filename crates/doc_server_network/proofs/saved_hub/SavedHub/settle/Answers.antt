@@ -12,8 +12,8 @@ returns-then-is_empty-clause-settled g c =
       settled_at_rest g.D.Device.seen g.D.Device.may_leave g.D.Device.failed g.D.Device.stale config begin c.args.self.now.unsaved
           c.args.self.now.hub.1 (Some c.in-Some.journal) (none, told.0)
           (of_this g.D.Device.seen g.D.Device.may_leave g.D.Device.failed g.D.Device.stale config
-          (λ j. IsSavedIn g.D.Device.seen g.D.Device.may_leave g.D.Device.failed g.D.Device.stale config begin j c.args.self.now.unsaved c.args.self.now.hub.1)
-          c.args.self.now.journal c.in-Some.journal c.in-Some.is is),
+          (λ j. IsSavedIn g.D.Device.seen g.D.Device.may_leave g.D.Device.failed g.D.Device.stale config begin j
+          c.args.self.now.unsaved c.args.self.now.hub.1) c.args.self.now.journal c.in-Some.journal c.in-Some.is is),
       (none, told.0),
     )
 
@@ -41,10 +41,10 @@ pub returns-clause-settled : goal.returns-clause-settled
 returns-clause-settled g c =
     λ config begin is.
     let told = c.in-Some-whole_lines.ensures in (
-      settles g.D.Device.seen g.D.Device.may_leave g.D.Device.failed g.D.Device.stale config begin c.args.self.now.unsaved c.lines_for.result
-          c.args.self.now.hub.1 c.args.self.now.journal c.in-Some.journal c.append.new.self c.in-Some-whole_lines.lines.now
-          c.as_bytes.result.now c.in-Some.is told.0 told.1 (sym c.if-is_empty.ensures) told.2 c.as_bytes.ensures.value
-          c.in_ok-append.ensures.acknowledged c.in_ok-append.ensures.room c.lines_for.ensures is,
+      settles g.D.Device.seen g.D.Device.may_leave g.D.Device.failed g.D.Device.stale config begin c.args.self.now.unsaved
+          c.lines_for.result c.args.self.now.hub.1 c.args.self.now.journal c.in-Some.journal c.append.new.self
+          c.in-Some-whole_lines.lines.now c.as_bytes.result.now c.in-Some.is told.0 told.1 (sym c.if-is_empty.ensures) told.2
+          c.as_bytes.ensures.value c.in_ok-append.ensures.acknowledged c.in_ok-append.ensures.room c.lines_for.ensures is,
       (ap (λ (k : Kept). k.lines) c.lines_for.ensures, ap (λ (k : Kept). k.is_whole) c.lines_for.ensures),
     )
 
