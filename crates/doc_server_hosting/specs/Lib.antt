@@ -1,2 +1,3 @@
 pub mod Hostings
 pub mod Hosts
+pub mod Rooms

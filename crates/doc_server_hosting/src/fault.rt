@@ -21,18 +21,34 @@ pub enum HostingFault<F: Drop> {
 }
 
 impl<F: Drop> From<RestoreFault> for HostingFault<F> {
+    ghost use Rattle.std.specs.Prelude.{◌≡◌};
+    ghost use Rattle.doc_server_hosting.specs.declared.fault.HostingFault.TheVariants as faults;
+
+    ghost from_gives = { λ fault stop. stop ≡ faults.Restore fault };
+
     fn from(fault: RestoreFault) -> HostingFault<F> {
         HostingFault::Restore(fault)
     }
 }
 
 impl<F: Drop> From<TurnFault> for HostingFault<F> {
+    ghost use Rattle.std.specs.Prelude.{◌≡◌};
+    ghost use Rattle.doc_server_hosting.specs.declared.fault.HostingFault.TheVariants as faults;
+    ghost use Rattle.doc_server_serving.specs.Faults.{of_turn};
+
+    ghost from_gives = { λ fault stop. stop ≡ faults.Serve (of_turn fault) };
+
     fn from(fault: TurnFault) -> HostingFault<F> {
         HostingFault::Serve(ServeFault::from(fault))
     }
 }
 
 impl<F: Drop> From<ServeFault> for HostingFault<F> {
+    ghost use Rattle.std.specs.Prelude.{◌≡◌};
+    ghost use Rattle.doc_server_hosting.specs.declared.fault.HostingFault.TheVariants as faults;
+
+    ghost from_gives = { λ fault stop. stop ≡ faults.Serve fault };
+
     fn from(fault: ServeFault) -> HostingFault<F> {
         HostingFault::Serve(fault)
     }

@@ -1,9 +1,11 @@
 //! The room of a journal before anybody is served.
 
-ghost use Rattle.std.specs.Prelude.{◌≡◌, List, ℕ, OnOk};
+ghost use Rattle.std.specs.Prelude.{◌≡◌, List, ℕ, nat_le, IfErr, OnOk};
+ghost use Rattle.doc_hub.specs.Worlds.{world_taking};
 ghost use Rattle.doc_server_hosting.specs.Hostings.{TakesPuts};
+ghost use Rattle.doc_server_hosting.specs.Rooms.{IsUnready};
 ghost use Rattle.doc_server_journal.specs.Journals.{IsOpen};
-ghost use Rattle.doc_server_settling.specs.Reserves.{HasRoomToRemove};
+ghost use Rattle.doc_server_settling.specs.Reserves.{HasRoomToRemove, reserve, takes_removals};
 
 use crate::fault::HostingFault;
 use doc_hub::hub::Hub;
@@ -25,7 +27,11 @@ pub fn make_room<D: Device + NamedFile, R: Renderer + Drop, F: Drop>(
         → IsOpen D.seen D.may_leave D.failed D.stale journal.old texts
         → OnOk result (IsOpen D.seen D.may_leave D.failed D.stale journal.new texts) }
     ensures room { OnOk result (HasRoomToRemove journal.new.room hub.new.1) }
+    ensures why { IfErr result (λ fault. IsUnready fault (takes_removals journal.new.room hub.new.1)
+        (D.failed journal.new.device)) }
     ensures taken { OnOk result (TakesPuts hub.old.1 hub.new.1) }
+    ensures takes { OnOk result (hub.new.1 ≡ world_taking hub.old.1
+        (nat_le reserve journal.new.room)) }
     ensures same { R.page hub.new.0 ≡ R.page hub.old.0 }
 {
     keep_reserve(journal, hub, RESERVE + SPARE)?;

@@ -20,14 +20,14 @@ some_in xs x among none = omega (arith, among.1, ap length none)
 pub heard_by : (P : Outcome → Type 0) (k : ℕ) (run : List Happened) (q : Peer) → Gave P k run → WasHeard k run q
 heard_by P k run q gave = inr (some_in (events_on k run) gave.0 gave.1)
 
-none_of : {X : Type 0} (xs ys : List X) → xs ++ ys ≡ [] → (xs ≡ []) × (ys ≡ [])
+pub none_of : {X : Type 0} (xs ys : List X) → xs ++ ys ≡ [] → (xs ≡ []) × (ys ≡ [])
 none_of [] ys e = (refl, e)
 none_of (x ∷ xs) ys e = absurd (omega (arith, ap length e))
 
-heard_first : (k : ℕ) (xs ys : List Happened) → (events_on k xs ≡ [] → ⊥) → events_on k (xs ++ ys) ≡ [] → ⊥
+pub heard_first : (k : ℕ) (xs ys : List Happened) → (events_on k xs ≡ [] → ⊥) → events_on k (xs ++ ys) ≡ [] → ⊥
 heard_first k xs ys some e = some ((none_of (events_on k xs) (events_on k ys) (sym (filter-append (is_on k) xs ys) ∙ e)).0)
 
-heard_last : (k : ℕ) (xs ys : List Happened) → (events_on k ys ≡ [] → ⊥) → events_on k (xs ++ ys) ≡ [] → ⊥
+pub heard_last : (k : ℕ) (xs ys : List Happened) → (events_on k ys ≡ [] → ⊥) → events_on k (xs ++ ys) ≡ [] → ⊥
 heard_last k xs ys some e = some ((none_of (events_on k xs) (events_on k ys) (sym (filter-append (is_on k) xs ys) ∙ e)).1)
 
 pub still_heard : (k : ℕ) (xs ys : List Happened) (q : Peer) → WasHeard k ys q → WasHeard k (xs ++ ys) q
@@ -42,12 +42,13 @@ heard_on k xs ys q r (inr some) keeps = inr (heard_first k xs ys some)
 -- ---- one client
 
 pub hears_itself : (k : ℕ) (p : Peer) → Hears k [] p p
-hears_itself k p = record { resting = λ r. inl r; reading = λ is. inl refl }
+hears_itself k p = record { resting = λ r. inl r; reading = λ is. inl refl; waits = λ w. w }
 
 hears_join : (k : ℕ) (xs ys : List Happened) (p q r : Peer) → Hears k xs p q → Hears k ys q r → Hears k (xs ++ ys) p r
 hears_join k xs ys p q r a b = record {
   resting = λ rests. heard_on k xs ys q r (a.resting rests) b.resting;
   reading = λ is. by is (a.reading is);
+  waits = λ w. b.waits (a.waits w);
 }
   where
     same : IsReader p → q ≡ p → (r ≡ q) ⊎ WasHeard k ys r → (r ≡ p) ⊎ WasHeard k (xs ++ ys) r
@@ -60,7 +61,7 @@ hears_join k xs ys p q r a b = record {
 
 hears_at_itself : (k : ℕ) (run : List Happened) (o : Option Peer) → HearsAt k run o o
 hears_at_itself k run None = tt
-hears_at_itself k run (Some p) = record { resting = λ r. inl r; reading = λ is. inl refl }
+hears_at_itself k run (Some p) = record { resting = λ r. inl r; reading = λ is. inl refl; waits = λ w. w }
 
 hears_at_join : (k : ℕ) (xs ys : List Happened) (p q r : Option Peer) → HearsAt k xs p q → HearsAt k ys q r → HearsAt k (xs ++ ys) p r
 hears_at_join k xs ys None None None a b = tt
@@ -148,7 +149,7 @@ all_hear_join ready more xs ys t u v a b = record {
 
 spares_itself : (o : Option Peer) → SparesAt o o
 spares_itself None = tt
-spares_itself (Some p) = record { resting = λ r. refl; reading = λ r. refl }
+spares_itself (Some p) = record { resting = λ r. refl; reading = λ r. refl; over = λ r. refl }
 
 pub spares_nobody : (t : Table) → SparesAll t t
 spares_nobody t = λ k. spares_itself (map.get t k)
@@ -173,6 +174,7 @@ spares_one_join (Some p) (Some q) None a b = b
 spares_one_join (Some p) (Some q) (Some r) a b = record {
   resting = λ is. let e = a.resting is in b.resting (ap (λ (x : Peer). x.rests) e ∙ is) ∙ e;
   reading = λ is. let e = a.reading is in b.reading (ap (λ (x : Peer). x.reads) e ∙ is) ∙ e;
+  over = λ is. let e = a.over is in b.over (ap (λ (x : Peer). x.is_over) e ∙ is) ∙ e;
 }
 
 pub spares_join : (t u v : Table) → SparesAll t u → SparesAll u v → SparesAll t v

@@ -2,6 +2,7 @@ mod Accepting
 mod AnswerSteps
 mod Bounds
 pub mod Crashing
+mod Ending
 mod Feeding
 mod Fewer
 mod Given
@@ -11,6 +12,7 @@ mod Hearing
 mod LeavingSteps
 mod Listed
 pub mod HandingOver
+mod Minding
 mod Modesty
 mod ReadSteps
 mod ServingSteps

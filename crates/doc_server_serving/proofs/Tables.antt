@@ -49,7 +49,11 @@ changed_at P Q t u id p q found is own others all = λ k. by k (k == id) refl
 -- ---- handing over
 
 closes_not : (ended : Type 0) (p : Peer) → ClosesBy ended p p
-closes_not ended p = record { opens = λ o. o; closes = λ o shut. absurd (not_both p.is_open o shut) }
+closes_not ended p = record {
+  opens = λ o. o;
+  closes = λ o shut. absurd (not_both p.is_open o shut);
+  lets_go = λ stands over. absurd (not_both p.is_over over stands);
+}
 
 gives_itself : (a b : Option (List ℕ)) (ended : Type 0) (p : Option Peer) → b ≡ a → GivesOne a b ended p p
 gives_itself a b ended None same = same
@@ -78,11 +82,16 @@ closes_join : (mid new : Type 0) (p q r : Peer) → (mid → new) → ClosesBy m
 closes_join mid new p q r later a b = record {
   opens = λ o. a.opens (b.opens o);
   closes = λ o shut. by q.is_open refl o shut;
+  lets_go = λ stands over. off q.is_over refl stands over;
 }
   where
     by : (x : Bool) → q.is_open ≡ x → p.is_open ≡ true → r.is_open ≡ false → new
     by true e o shut = b.closes e shut
     by false e o shut = later (a.closes o e)
+
+    off : (x : Bool) → q.is_over ≡ x → p.is_over ≡ false → r.is_over ≡ true → new
+    off true e stands over = later (a.lets_go stands e)
+    off false e stands over = b.lets_go e over
 
 gives_one_join : (a b c : Option (List ℕ)) (mid new : Type 0) (p q r : Option Peer) → (mid → new) → GivesOne a b mid p q
     → GivesOne b c new q r → GivesOne a c new p r
@@ -114,18 +123,28 @@ gives_fronts old mid new ended t u g rests = λ k.
 -- ---- lingering
 
 -- what a closed client reads is dropped
-pub drained : (old new : ℕ → Option (List ℕ)) (id : ℕ) (bytes : List ℕ) (p q : Peer) → p.is_open ≡ false → q.pending ≡ p.pending
-    → q.is_open ≡ p.is_open → Moves old new id bytes → Lingers (old id) (new id) p q
-drained old new id bytes p q shut pending opened moves = record {
-  pending = pending;
-  opened = opened;
+pub drained : (old new : ℕ → Option (List ℕ)) (id : ℕ) (bytes : List ℕ) (p : Peer) → p.is_open ≡ false → Moves old new id bytes
+    → Lingers (old id) (new id) p p
+drained old new id bytes p shut moves = record {
+  pending = refl;
+  opened = refl;
   input = (bytes, moved_at old new id bytes moves, λ o. absurd (not_both p.is_open o shut));
+  stays = λ l. l;
+  tires = λ awake rests. absurd (not_both p.rests rests awake);
+  lets_go = λ stands over. absurd (not_both p.is_over over stands);
 }
 
 lingers_not : (a b : Option (List ℕ)) (p : Option Peer) → b ≡ a → LingersAt a b p p
 lingers_not a b None same = same
 lingers_not a b (Some p) same =
-    record { pending = refl; opened = refl; input = ([], same ∙ sym (append_none a), λ o. refl) }
+    record {
+      pending = refl;
+      opened = refl;
+      input = ([], same ∙ sym (append_none a), λ o. refl);
+      stays = λ l. l;
+      tires = λ awake rests. absurd (not_both p.rests rests awake);
+      lets_go = λ stands over. absurd (not_both p.is_over over stands);
+    }
 
 pub lingers_nothing : (c d : ℕ → Option (List ℕ)) (t : Table) → Rests c d → LingerAll c d t t
 lingers_nothing c d t rests = λ k. lingers_not (c k) (d k) (map.get t k) (rests k)
@@ -158,7 +177,18 @@ lingers_one_join a b c (Some p) (Some q) (Some r) g h = record {
     h.input.1 ∙ ap (λ known. append_known known h.input.0) g.input.1 ∙ append_join a g.input.0 h.input.0,
     λ o. ap (λ l. l ++ h.input.0) (g.input.2 o) ∙ h.input.2 (g.opened ∙ o),
   );
+  stays = λ l. h.stays (g.stays l);
+  tires = λ awake rests. tired q.rests refl awake rests;
+  lets_go = λ stands over. gone q.is_over refl stands over;
 }
+  where
+    tired : (x : Bool) → q.rests ≡ x → p.rests ≡ false → r.rests ≡ true → r.lingers ≡ true
+    tired true e awake rests = h.stays (g.tires awake e)
+    tired false e awake rests = h.tires e rests
+
+    gone : (x : Bool) → q.is_over ≡ x → p.is_over ≡ false → r.is_over ≡ true → p.pending ≡ []
+    gone true e stands over = g.lets_go stands e
+    gone false e stands over = sym g.pending ∙ h.lets_go e over
 
 pub lingers_join : (c d e : ℕ → Option (List ℕ)) (t u v : Table) → LingerAll c d t u → LingerAll d e u v → LingerAll c e t v
 lingers_join c d e t u v g h = λ k. lingers_one_join (c k) (d k) (e k) (map.get t k) (map.get u k) (map.get v k) (g k) (h k)
@@ -182,7 +212,7 @@ woken_same old new t f w = λ k. later (old k) (new k) (map.get t k) (f k) (w k)
 
 swept_not : (p : Option Peer) → SweptAt p p
 swept_not None = tt
-swept_not (Some p) = record { pending = refl; rests = refl; opens = λ o. o; feeds = λ f. f }
+swept_not (Some p) = record { pending = refl; rests = refl; opens = λ o. o; feeds = λ f. f; lingers = refl; over = λ o. o }
 
 pub swept_nothing : (t : Table) → SweptAll t t
 swept_nothing t = λ k. swept_not (map.get t k)
@@ -205,7 +235,14 @@ swept_one_join None (Some q) r g h = absurd g
 swept_one_join (Some p) None r g h = absurd g
 swept_one_join (Some p) (Some q) None g h = h
 swept_one_join (Some p) (Some q) (Some r) g h =
-    record { pending = h.pending ∙ g.pending; rests = h.rests ∙ g.rests; opens = λ o. g.opens (h.opens o); feeds = λ f. h.feeds (g.feeds f) }
+    record {
+      pending = h.pending ∙ g.pending;
+      rests = h.rests ∙ g.rests;
+      opens = λ o. g.opens (h.opens o);
+      feeds = λ f. h.feeds (g.feeds f);
+      lingers = h.lingers ∙ g.lingers;
+      over = λ o. h.over (g.over o);
+    }
 
 pub swept_join : (t u v : Table) → SweptAll t u → SweptAll u v → SweptAll t v
 swept_join t u v g h = λ k. swept_one_join (map.get t k) (map.get u k) (map.get v k) (g k) (h k)
@@ -225,8 +262,12 @@ not_yet : false ≡ true → ⊥
 not_yet e = cc
 
 woken_closes : (ended : Type 0) (p : Peer) (is_gone : Bool) → (is_gone ≡ true → ended) → ClosesBy ended p (woken p is_gone)
-woken_closes ended p true why = record { opens = λ o. absurd (not_yet o); closes = λ o shut. why refl }
-woken_closes ended p false why = record { opens = λ o. o; closes = λ o shut. absurd (not_both p.is_open o shut) }
+woken_closes ended p true why = record { opens = λ o. absurd (not_yet o); closes = λ o shut. why refl; lets_go = λ stands over. why refl }
+woken_closes ended p false why = record {
+  opens = λ o. o;
+  closes = λ o shut. absurd (not_both p.is_open o shut);
+  lets_go = λ stands over. absurd (not_both p.is_over over stands);
+}
 
 woken_pending : (p : Peer) (is_gone : Bool) → (woken p is_gone).pending ≡ p.pending
 woken_pending p true = refl

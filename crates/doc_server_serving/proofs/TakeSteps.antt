@@ -6,7 +6,7 @@ use Rattle.doc_hub.specs.Runs.{Happened}
 use Rattle.doc_hub.specs.Worlds.{World}
 use Rattle.doc_server_listen.specs.Costs.{IsWithin, Left}
 use Rattle.doc_server_listen.proofs.CostSteps.{within_join, within_none, within_quiet}
-use Rattle.doc_server_serving.specs.Hearing.{Hears, IsReader, WasHeard}
+use Rattle.doc_server_serving.specs.Hearing.{Hears, IsReader, Waits, WasHeard}
 use Rattle.doc_server_serving.specs.Servings.{Serves}
 use Rattle.doc_server_serving.specs.Wirings.{Peer}
 use Rattle.doc_server_serving.proofs.AnswerSteps.{AnswersSharing}
@@ -25,24 +25,32 @@ pub not_taken : (render : Renders) (w : World) (id : ℕ) (c : Option (List ℕ)
 not_taken render w id c ended p l idle =
     (serves_nothing render w id c c ended p p refl refl refl, within_none l, hears_itself id p, λ is. absurd (idle is))
 
-hears_awake : (id : ℕ) (run : List Happened) (p q : Peer) → p.rests ≡ false → (IsReader p → WasHeard id run q) → Hears id run p q
-hears_awake id run p q awake heard =
-    record { resting = λ rests. absurd (not_both p.rests rests awake); reading = λ is. inr (heard is) }
+hears_awake : (id : ℕ) (run : List Happened) (p q : Peer) → p.rests ≡ false → p.is_over ≡ false → (IsReader p → WasHeard id run q)
+    → Hears id run p q
+hears_awake id run p q awake stands heard = record {
+  resting = λ rests. absurd (not_both p.rests rests awake);
+  reading = λ is. inr (heard is);
+  waits = λ w. absurd (by w);
+}
+  where
+    by : Waits p → ⊥
+    by (inl rests) = not_both p.rests rests awake
+    by (inr over) = not_both p.is_over over stands
 
 -- a read takes nothing of the share
 pub quiet_takes : (render : Renders) (w v : World) (id : ℕ) (c d : Option (List ℕ)) (ended : Type 0) (p q : Peer) (l : Left)
-    → p.rests ≡ false → ServesQuietly render w v id c d ended p q → ServesSharing render w v id c d ended p q l l
-quiet_takes render w v id c d ended p q l awake (s, quiets, heard) =
-    (s, within_quiet s.run l quiets, hears_awake id s.run p q awake (λ is. heard is.0), λ is. heard is.0)
+    → p.rests ≡ false → p.is_over ≡ false → ServesQuietly render w v id c d ended p q → ServesSharing render w v id c d ended p q l l
+quiet_takes render w v id c d ended p q l awake stands (s, quiets, heard) =
+    (s, within_quiet s.run l quiets, hears_awake id s.run p q awake stands (λ is. heard is.0), λ is. heard is.0)
 
 pub then_answers : (render page : Renders) (w v u : World) (id : ℕ) (c d : Option (List ℕ)) (ended : Type 0) (p q r : Peer) (l m : Left)
-    → page ≡ render → q.is_open ≡ true → p.rests ≡ false → ServesQuietly render w v id c d ended p q → AnswersSharing page v u id q r l m
-    → ServesSharing render w u id c d ended p r l m
-then_answers render page w v u id c d ended p q r l m same opened awake (s, quiets, heard) (a, within) =
+    → page ≡ render → q.is_open ≡ true → p.rests ≡ false → p.is_over ≡ false → ServesQuietly render w v id c d ended p q
+    → AnswersSharing page v u id q r l m → ServesSharing render w u id c d ended p r l m
+then_answers render page w v u id c d ended p q r l m same opened awake stands (s, quiets, heard) (a, within) =
     let on : IsReader p → WasHeard id (s.run ++ a.run) r =
     λ is. heard_on id s.run a.run q r (heard is.0) (λ rests. inl (a.rests ∙ rests)) in (
       serves_join render page w v u id c d d ended ended p q r same (λ e. e) s (answers_serve page v u id d ended q r opened a),
       within_join s.run a.run l l m (within_quiet s.run l quiets) within,
-      hears_awake id (s.run ++ a.run) p r awake on,
+      hears_awake id (s.run ++ a.run) p r awake stands on,
       on,
     )

@@ -1,9 +1,11 @@
 pub mod Crashing
+pub mod Faults
 pub mod Hearing
 pub mod Invariants
 pub mod Leading
 pub mod Parts
 pub mod Replies
+pub mod Rooms
 pub mod Servings
 pub mod Sharing
 pub mod Silences

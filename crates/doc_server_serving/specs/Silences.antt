@@ -1,10 +1,14 @@
 -- How long a peer is silent, in sweeps. All of this is this project's choice.
-use Rattle.std.specs.Prelude.{ℕ, ◌*◌, Bool, true, false, nat_le, if◌then◌else◌}
+use Rattle.std.specs.Prelude.{ℕ, ◌+◌, ◌-◌, ◌*◌, ◌^◌, Bool, true, false, min, nat_le, if◌then◌else◌}
 use Rattle.doc_server_serving.specs.declared.silence.Silence.{Silence}
 
 -- a peer that is heard; one that was sent its last reply isn't, whatever it sends
 abbrev pub heard : Silence → Silence
-heard silence = if silence.lingers then silence else record { sweeps = 0; lingers = false }
+heard silence = record { sweeps = if silence.lingers then silence.sweeps else 0; lingers = silence.lingers }
+
+-- a sweep more; the count ends at the last value of a u64
+abbrev pub swept : Silence → Silence
+swept silence = record { sweeps = min (silence.sweeps + 1) (2 ^ 64 - 1); lingers = silence.lingers }
 
 -- after how many sweeps it is let go: four for each second that it may be silent, and 8 behind its last reply
 abbrev pub sweeps_until : ℕ → Bool → ℕ

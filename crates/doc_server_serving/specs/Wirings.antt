@@ -1,12 +1,13 @@
 -- What was handed over on each connection, beside what is sent there; and what came, beside what is pushed.
-use Rattle.std.specs.Prelude.{◌≡◌, ◌++◌, ◌⊎◌, ⊤, ℕ, List, [], Bool, true, false, Option, Some, None, IfSome}
+use Rattle.std.specs.Prelude.{◌≡◌, ◌++◌, ◌⊎◌, ⊤, ℕ, List, [], Bool, true, false, Option, Some, None, IfSome, Contains}
 use Rattle.std.specs.FinMap as map
 use Rattle.std.specs.Ordering.{nat_cmp}
 use Rattle.std.specs.Io.KnownBytes.{append_known}
 
 -- What contracts see of a client: the bytes of replies that aren't handed over yet; whether its connection is still its own; whether it rests
 -- until the network tells of it; whether it starves, so that it waits for the next sweep; whether it is over, so that it is let
--- go; and whether it reads next: nothing is pending, and what was read holds no further request.
+-- go; whether it reads next: nothing is pending, and what was read holds no further request; and whether it lingers: behind its last reply
+-- its peer was told of the end.
 pub record Peer : Type 0 where
   pub pending : List ℕ
   pub is_open : Bool
@@ -14,6 +15,7 @@ pub record Peer : Type 0 where
   pub starves : Bool
   pub is_over : Bool
   pub reads : Bool
+  pub lingers : Bool
 
 -- the clients by the numbers of their connections
 abbrev pub Table : Type 0
@@ -21,7 +23,7 @@ Table = map.FinMap nat_cmp Peer
 
 -- a client whose connection was just made
 abbrev pub new_peer : Peer
-new_peer = record { pending = []; is_open = true; rests = true; starves = false; is_over = false; reads = true }
+new_peer = record { pending = []; is_open = true; rests = true; starves = false; is_over = false; reads = true; lingers = false }
 
 -- ---- one connection
 
@@ -74,10 +76,12 @@ TakesInAt c d pushes sends p q = ⊥
 abbrev pub HandsOver : Option (List ℕ) → Option (List ℕ) → List ℕ → List ℕ → Type 0
 HandsOver old new before left = (given : List ℕ) × (new ≡ append_known old given) × (before ≡ given ++ left)
 
--- Who is open was open. Who was, and isn't any more, is closed because the connection has ended.
+-- Who is open was open. Who was, and isn't any more, is closed because the connection has ended, and so it is with
+-- who is let go from here on.
 pub record ClosesBy (ended : Type 0) (p q : Peer) : Type 0 where
   pub opens : q.is_open ≡ true → p.is_open ≡ true
   pub closes : p.is_open ≡ true → q.is_open ≡ false → ended
+  pub lets_go : p.is_over ≡ false → q.is_over ≡ true → ended
 
 -- Meanwhile some of what was pending for a client was handed over, and nothing where none stands.
 abbrev pub GivesOne : Option (List ℕ) → Option (List ℕ) → Type 0 → Option Peer → Option Peer → Type 0
@@ -87,6 +91,18 @@ GivesOne old new ended p q = ⊥
 
 abbrev pub Gives : (ℕ → Option (List ℕ)) → (ℕ → Option (List ℕ)) → (ℕ → Type 0) → Table → Table → Type 0
 Gives old new ended before after = (k : ℕ) → GivesOne (old k) (new k) (ended k) (map.get before k) (map.get after k)
+
+-- nothing is pending for it any more, or it rests, or it is over
+abbrev pub HasSent : Peer → Type 0
+HasSent p = (p.pending ≡ []) ⊎ (p.rests ≡ true) ⊎ (p.is_over ≡ true)
+
+abbrev pub HasSentAt : Option Peer → Type 0
+HasSentAt None = ⊤
+HasSentAt (Some p) = HasSent p
+
+-- the same of each client of these numbers
+abbrev pub HaveSent : List ℕ → Table → Type 0
+HaveSent numbers table = (k : ℕ) → Contains numbers k → HasSentAt (map.get table k)
 
 -- what was handed over meanwhile on each connection is a front of what was pending for its client before
 abbrev pub GivesFront : Option (List ℕ) → Option (List ℕ) → Option Peer → Type 0
@@ -98,11 +114,15 @@ GivesFronts old new table = (k : ℕ) → GivesFront (old k) (new k) (map.get ta
 
 -- ---- lingering
 
--- What still comes behind the last reply of a client is dropped. An open client is left as it was.
+-- What still comes behind the last reply of a client is dropped. An open client is left as it was. Who rests from here on lingers, and who is
+-- let go from here on has nothing pending.
 pub record Lingers (c d : Option (List ℕ)) (p q : Peer) : Type 0 where
   pub pending : q.pending ≡ p.pending
   pub opened : q.is_open ≡ p.is_open
   pub input : (lost : List ℕ) × (d ≡ append_known c lost) × (p.is_open ≡ true → lost ≡ [])
+  pub stays : p.lingers ≡ true → q.lingers ≡ true
+  pub tires : p.rests ≡ false → q.rests ≡ true → q.lingers ≡ true
+  pub lets_go : p.is_over ≡ false → q.is_over ≡ true → p.pending ≡ []
 
 abbrev pub LingersAt : Option (List ℕ) → Option (List ℕ) → Option Peer → Option Peer → Type 0
 LingersAt c d None None = d ≡ c
@@ -112,6 +132,18 @@ LingersAt c d p q = ⊥
 abbrev pub LingerAll : (ℕ → Option (List ℕ)) → (ℕ → Option (List ℕ)) → Table → Table → Type 0
 LingerAll c d before after = (k : ℕ) → LingersAt (c k) (d k) (map.get before k) (map.get after k)
 
+-- Whoever is closed and awake, with nothing pending, lingers from here on, or is over.
+abbrev pub Ends : Peer → Peer → Type 0
+Ends p q = p.is_open ≡ false → p.rests ≡ false → p.pending ≡ [] → (q.lingers ≡ true) ⊎ (q.is_over ≡ true)
+
+abbrev pub EndsAt : Option Peer → Option Peer → Type 0
+EndsAt (Some p) (Some q) = Ends p q
+EndsAt p q = ⊤
+
+-- the same of each client of these numbers
+abbrev pub EndAll : List ℕ → Table → Table → Type 0
+EndAll numbers before after = (k : ℕ) → Contains numbers k → EndsAt (map.get before k) (map.get after k)
+
 -- ---- sweeps
 
 -- A sweep closes clients, and has nobody starve.
@@ -120,6 +152,8 @@ pub record Swept (p q : Peer) : Type 0 where
   pub rests : q.rests ≡ p.rests
   pub opens : q.is_open ≡ true → p.is_open ≡ true
   pub feeds : p.starves ≡ false → q.starves ≡ false
+  pub lingers : q.lingers ≡ p.lingers
+  pub over : p.is_over ≡ true → q.is_over ≡ true
 
 abbrev pub SweptAt : Option Peer → Option Peer → Type 0
 SweptAt None None = ⊤

@@ -1,10 +1,10 @@
 //! A client: the replies to a connection's peer that aren't handed over yet, and what is done with it next.
 
-ghost use Rattle.std.specs.Prelude.{◌≡◌, true, false, [], length};
+ghost use Rattle.std.specs.Prelude.{◌≡◌, ◌⊎◌, true, false, [], length};
 ghost use Rattle.doc_server_network.specs.Networks.{Rests, RestsBut, Stays, StaysBut};
 ghost use Rattle.doc_server_serving.specs.Hearing.{Spares};
 ghost use Rattle.doc_server_serving.specs.Parts.{takes_part};
-ghost use Rattle.doc_server_serving.specs.Wirings.{ClosesBy, HandsOver, Lingers, Swept, new_peer, woken};
+ghost use Rattle.doc_server_serving.specs.Wirings.{ClosesBy, Ends, HandsOver, HasSent, Lingers, Swept, new_peer, woken};
 
 use crate::limits::Limits;
 use crate::sending::send_replies;
@@ -51,6 +51,7 @@ impl Model for Client {
       starves = l.is_starved && (deque_len l.replies == 0);
       is_over = is_over_in l.stage;
       reads = is_reading_in l.stage && (deque_len l.replies == 0);
+      lingers = l.silence.lingers;
     } };
 
     ghost invariant = { λ l. Starts l.sent l.replies.items };
@@ -125,6 +126,7 @@ impl Client {
         ensures gives { HandsOver (N.gone net.old id) (N.gone net.new id)
             self.old.pending self.new.pending }
         ensures why { ClosesBy (N.has_ended net.new id) self.old self.new }
+        ensures sent { HasSent self.new }
         ensures spares { Spares self.old self.new }
         ensures others { RestsBut id (N.gone net.old) (N.gone net.new) }
         ensures came { Rests (N.came net.old) (N.came net.new) }
@@ -170,6 +172,7 @@ impl Client {
     /// silent.
     pub fn finish<N: Network>(&mut self, id: u64, net: &mut N, piece: &mut [u8])
         ensures lingers { Lingers (N.came net.old id) (N.came net.new id) self.old self.new }
+        ensures ends { Ends self.old self.new }
         ensures spares { Spares self.old self.new }
         ensures others { RestsBut id (N.came net.old) (N.came net.new) }
         ensures gone { Rests (N.gone net.old) (N.gone net.new) }
@@ -196,7 +199,9 @@ impl Client {
     fn linger<N: Network>(&mut self, id: u64, net: &mut N, piece: &mut [u8])
         requires closed { self.old.is_open ≡ false }
         requires awake { self.old.rests ≡ false }
+        requires none { self.old.pending ≡ [] }
         ensures lingers { Lingers (N.came net.old id) (N.came net.new id) self.old self.new }
+        ensures ends { (self.new.lingers ≡ true) ⊎ (self.new.is_over ≡ true) }
         ensures others { RestsBut id (N.came net.old) (N.came net.new) }
         ensures gone { Rests (N.gone net.old) (N.gone net.new) }
         ensures woken { self.new.rests ≡ true → N.wakes net.new id }
@@ -221,6 +226,8 @@ impl Client {
     fn drain<N: Network>(&mut self, id: u64, net: &mut N, piece: &mut [u8])
         requires closed { self.old.is_open ≡ false }
         requires awake { self.old.rests ≡ false }
+        requires none { self.old.pending ≡ [] }
+        requires lingers { self.old.lingers ≡ true }
         ensures lingers { Lingers (N.came net.old id) (N.came net.new id) self.old self.new }
         ensures others { RestsBut id (N.came net.old) (N.came net.new) }
         ensures gone { Rests (N.gone net.old) (N.gone net.new) }

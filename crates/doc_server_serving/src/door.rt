@@ -1,9 +1,10 @@
 //! Accepting peers.
 
-ghost use Rattle.std.specs.Prelude.{◌≡◌, ◌≤◌, ◌<◌, ◌+◌, false, true};
+ghost use Rattle.std.specs.Prelude.{◌≡◌, ◌≤◌, ◌<◌, ◌+◌, ◌&&◌, ◌||◌, nat_lt, not, false, true};
 ghost use Rattle.std.specs.FinMap as map;
 ghost use Rattle.doc_server_network.specs.Networks.{Rests, StaysBut};
 ghost use Rattle.doc_server_network.specs.Saved.{IsReady, StaysSaved};
+ghost use Rattle.doc_server_serving.specs.Hearing.{WaitOn};
 ghost use Rattle.doc_server_serving.specs.Invariants.{AreFree, GoesOn};
 ghost use Rattle.doc_server_serving.specs.Sites.{IsSameSite};
 
@@ -32,7 +33,7 @@ pub struct Door {
 impl Door {
     /// A door at which nobody has knocked, for so many peers at once.
     pub fn new(most: usize) -> Door
-        ensures { result.most ≡ most }
+        ensures { result ≡ record { most = most; is_awaited = false; rests = false } }
     {
         Door {
             most,
@@ -43,21 +44,23 @@ impl Door {
 
     /// What the network has told.
     pub fn hear(&mut self, news: &News)
-        ensures { self.new.most ≡ self.old.most }
+        ensures { self.new ≡ record self.old { is_awaited = self.old.is_awaited || news.now.is_knocked } }
     {
         self.is_awaited = self.is_awaited || news.is_knocked;
     }
 
     /// A sweep: it is tried again.
     pub fn wake(&mut self)
-        ensures { self.new.most ≡ self.old.most }
+        ensures { self.new ≡ record self.old { rests = false } }
     {
         self.rests = false;
     }
 
     /// Whether a peer can be accepted now.
     pub fn is_open(&self, peers: &Peers) -> bool
-        ensures { result ≡ true → map.len peers.now < self.now.most }
+        ensures open { result ≡ (self.now.is_awaited && not self.now.rests
+            && nat_lt (map.len peers.now) self.now.most) }
+        ensures room { result ≡ true → map.len peers.now < self.now.most }
     {
         self.is_awaited && !self.rests && peers.count() < self.most
     }
@@ -73,6 +76,7 @@ impl Door {
         requires free { AreFree saved.old.hub.1.given (N.is_free net.old) }
         ensures goes { GoesOn R.page N.came N.gone N.wakes N.is_free saved.old.hub saved.new.hub
             net.old net.new peers.old peers.new }
+        ensures waits { WaitOn peers.old peers.new }
         ensures bound { map.len peers.old ≤ self.old.most → map.len peers.new ≤ self.old.most }
         ensures most { self.new.most ≡ self.old.most }
         ensures site { IsSameSite saved.old.hub.1 saved.new.hub.1 }
@@ -101,6 +105,7 @@ impl Door {
         requires free { AreFree saved.old.hub.1.given (N.is_free net.old) }
         ensures goes { GoesOn R.page N.came N.gone N.wakes N.is_free saved.old.hub saved.new.hub
             net.old net.new peers.old peers.new }
+        ensures waits { WaitOn peers.old peers.new }
         ensures more { map.len peers.new ≤ map.len peers.old + 1 }
         ensures most { self.new.most ≡ self.old.most }
         ensures site { IsSameSite saved.old.hub.1 saved.new.hub.1 }

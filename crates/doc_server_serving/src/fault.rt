@@ -20,18 +20,33 @@ pub enum ServeFault {
 }
 
 impl From<NetFault> for ServeFault {
+    ghost use Rattle.std.specs.Prelude.{◌≡◌};
+    ghost use Rattle.doc_server_serving.specs.declared.fault.ServeFault.TheVariants as faults;
+
+    ghost from_gives = { λ _ e. e ≡ faults.Socket };
+
     fn from(_e: NetFault) -> ServeFault {
         ServeFault::Socket
     }
 }
 
 impl From<AllocError> for ServeFault {
+    ghost use Rattle.std.specs.Prelude.{◌≡◌};
+    ghost use Rattle.doc_server_serving.specs.declared.fault.ServeFault.TheVariants as faults;
+
+    ghost from_gives = { λ _ e. e ≡ faults.Memory };
+
     fn from(_e: AllocError) -> ServeFault {
         ServeFault::Memory
     }
 }
 
 impl From<TurnFault> for ServeFault {
+    ghost use Rattle.std.specs.Prelude.{◌≡◌};
+    ghost use Rattle.doc_server_serving.specs.Faults.{of_turn};
+
+    ghost from_gives = { λ e fault. fault ≡ of_turn e };
+
     fn from(e: TurnFault) -> ServeFault {
         match e {
             TurnFault::Memory => ServeFault::Memory,

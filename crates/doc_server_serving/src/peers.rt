@@ -9,7 +9,7 @@ ghost use Rattle.doc_server_serving.specs.Hearing.{HearsAll, SparesAll};
 ghost use Rattle.doc_server_serving.specs.Parts.{is_over_at, numbers_of, takes_part, takes_part_at, turn_of};
 ghost use Rattle.doc_server_serving.specs.Servings.{ServesAll};
 ghost use Rattle.doc_server_serving.specs.Sharing.{SharesTurn};
-ghost use Rattle.doc_server_serving.specs.Wirings.{AreWoken, Gives, IsFedAt, LingerAll, SweptAll, WokeAt, new_peer};
+ghost use Rattle.doc_server_serving.specs.Wirings.{AreWoken, EndAll, EndsAt, Gives, HasSentAt, HaveSent, IsFedAt, LingerAll, SweptAll, WokeAt, new_peer};
 
 use crate::client::Client;
 use crate::limits::Limits;
@@ -108,6 +108,7 @@ impl Peers {
     /// Hands over what is pending for the clients of these numbers.
     pub fn send_all<N: Network>(&mut self, ready: &[u64], net: &mut N, permit: &Permit<'_>)
         ensures gives { Gives (N.gone net.old) (N.gone net.new) (N.has_ended net.new) self.old self.new }
+        ensures sent { HaveSent ready.now self.new }
         ensures spares { SparesAll self.old self.new }
         ensures came { Rests (N.came net.old) (N.came net.new) }
         ensures woken { AreWoken (N.wakes net.old) self.old → AreWoken (N.wakes net.new) self.new }
@@ -122,6 +123,7 @@ impl Peers {
     /// Hands over what is pending for the client of this number, where there is one.
     fn send_at<N: Network>(&mut self, id: u64, net: &mut N, permit: &Permit<'_>)
         ensures gives { Gives (N.gone net.old) (N.gone net.new) (N.has_ended net.new) self.old self.new }
+        ensures sent { HasSentAt (map.get self.new id) }
         ensures spares { SparesAll self.old self.new }
         ensures came { Rests (N.came net.old) (N.came net.new) }
         ensures woken { AreWoken (N.wakes net.old) self.old → AreWoken (N.wakes net.new) self.new }
@@ -198,6 +200,7 @@ impl Peers {
     /// Ends the part of the clients of these numbers in a turn.
     pub fn finish_all<N: Network>(&mut self, ready: &[u64], net: &mut N, piece: &mut [u8])
         ensures lingers { LingerAll (N.came net.old) (N.came net.new) self.old self.new }
+        ensures ends { EndAll ready.now self.old self.new }
         ensures spares { SparesAll self.old self.new }
         ensures gone { Rests (N.gone net.old) (N.gone net.new) }
         ensures woken { AreWoken (N.wakes net.old) self.old → AreWoken (N.wakes net.new) self.new }
@@ -213,6 +216,7 @@ impl Peers {
     /// Ends the part of the client of this number, where there is one.
     fn finish_at<N: Network>(&mut self, id: u64, net: &mut N, piece: &mut [u8])
         ensures lingers { LingerAll (N.came net.old) (N.came net.new) self.old self.new }
+        ensures ends { EndsAt (map.get self.old id) (map.get self.new id) }
         ensures spares { SparesAll self.old self.new }
         ensures gone { Rests (N.gone net.old) (N.gone net.new) }
         ensures woken { AreWoken (N.wakes net.old) self.old → AreWoken (N.wakes net.new) self.new }

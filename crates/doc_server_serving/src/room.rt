@@ -1,10 +1,11 @@
 //! The room of a journal, told to people where puts are refused for want of it.
 
-ghost use Rattle.std.specs.Prelude.{◌≡◌, OnOk};
+ghost use Rattle.std.specs.Prelude.{◌≡◌, IfErr, OnErr, OnOk};
 ghost use Rattle.doc_hub.specs.Worlds.{World};
 ghost use Rattle.doc_server_network.specs.Crashes.{CrashesLeave, Restores};
-ghost use Rattle.doc_server_network.specs.Saved.{IsAllSaved, IsReady, IsSaved, IsSettled};
+ghost use Rattle.doc_server_network.specs.Saved.{HasFailed, IsAllSaved, IsReady, IsSaved, IsSettled, TakesByRoom};
 ghost use Rattle.doc_server_serving.specs.Leading.{LeadsQuietly};
+ghost use Rattle.doc_server_serving.specs.Rooms.{growth_of};
 ghost use Rattle.doc_server_serving.specs.Sites.{IsSameSite};
 ghost use Rattle.doc_store.specs.Store.{StoreState};
 
@@ -40,6 +41,10 @@ pub fn keep_room<D: Device + NamedFile, R: Renderer + Drop>(
         → CrashesLeave D.seen D.moment D.left_since
         (Restores config begin) saved.old.journal saved.new.journal }
     ensures site { IsSameSite saved.old.hub.1 saved.new.hub.1 }
+    ensures taken { OnOk result (TakesByRoom (R.page saved.old.hub.0) saved.new.journal
+        saved.old.hub.1 saved.new.hub.1) }
+    ensures failed { OnErr result (HasFailed D.failed saved.new.journal) }
+    ensures cannot_write { IfErr result (λ e. e ≡ TurnFault.CannotWrite) }
     ensures quiet { LeadsQuietly (R.page saved.old.hub.0) saved.old.hub.1 saved.new.hub.1 }
     ensures same { R.page saved.new.hub.0 ≡ R.page saved.old.hub.0 }
 {
@@ -56,7 +61,10 @@ pub fn keep_room<D: Device + NamedFile, R: Renderer + Drop>(
 }
 
 /// By how much the journal may grow behind a turn.
-pub fn growth(room: Option<usize>) -> usize {
+#[tactic(auto, unfolding(doc_server_settling::specs::Reserves::reserve))]
+pub fn growth(room: Option<usize>) -> usize
+    ensures { result ≡ growth_of room }
+{
     match room {
         Some(room) if room < RESERVE => SLICES,
         _ => SLICE,

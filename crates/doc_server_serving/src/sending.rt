@@ -1,6 +1,6 @@
 //! Handing replies over to a connection that may take a part of them.
 
-ghost use Rattle.std.specs.Prelude.{◌≡◌, ◌≤◌, length, drop, true, false, IfOk, OnErr};
+ghost use Rattle.std.specs.Prelude.{◌≡◌, ◌≤◌, [], length, drop, true, false, IfOk, OnErr};
 ghost use Rattle.doc_server_network.specs.Networks.{Rests, RestsBut, Stays, StaysBut};
 ghost use Rattle.doc_server_serving.specs.Replies.{Starts, left_of};
 ghost use Rattle.doc_server_serving.specs.Wirings.{HandsOver};
@@ -24,6 +24,7 @@ pub fn send_replies<N: Network>(
     ensures gives { HandsOver (N.gone net.old id) (N.gone net.new id)
         (left_of sent.old replies.old.items) (left_of sent.new replies.new.items) }
     ensures starts { Starts sent.new replies.new.items }
+    ensures all { IfOk result (λ all. all ≡ true → replies.new.items ≡ []) }
     ensures others { RestsBut id (N.gone net.old) (N.gone net.new) }
     ensures came { Rests (N.came net.old) (N.came net.new) }
     ensures arms { IfOk result (λ all. all ≡ false → N.wakes net.new id) }

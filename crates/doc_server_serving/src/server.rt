@@ -1,19 +1,20 @@
 //! The loop over a network.
 
-ghost use Rattle.std.specs.Prelude.{◌≡◌, ◌≤◌, ℕ, true, IfOk, OnOk, if◌then◌else◌};
+ghost use Rattle.std.specs.Prelude.{◌≡◌, ◌≤◌, ◌⊎◌, ℕ, false, true, IfErr, IfOk, OnOk, if◌then◌else◌};
 ghost use Rattle.std.specs.FinMap as map;
 ghost use Rattle.std.specs.List.{list_any};
 ghost use Rattle.doc_hub.specs.Worlds.{World};
 ghost use Rattle.doc_server_network.specs.Crashes.{CrashesLeave, Restores, RestoresEither};
 ghost use Rattle.doc_server_network.specs.Saved.{IsAllSaved, IsReady, IsSaved, IsSettled, StaysSaved};
 ghost use Rattle.doc_server_serving.specs.Crashing.{AreKnown, RestoresFront};
-ghost use Rattle.doc_server_serving.specs.Hearing.{HeardAt};
+ghost use Rattle.doc_server_serving.specs.Hearing.{HeardAt, IsMinded, WaitOn};
 ghost use Rattle.doc_server_serving.specs.Invariants.{AreFree, GoesOn, HasServedNobody, IsServed};
 ghost use Rattle.doc_server_serving.specs.Leading.{Leads, LeadsQuietly};
 ghost use Rattle.doc_server_serving.specs.Parts.{takes_part_at, turn_of};
 ghost use Rattle.doc_server_serving.specs.Sharing.{times_among};
 ghost use Rattle.doc_server_serving.specs.Sites.{IsSameSite};
 ghost use Rattle.doc_server_serving.specs.Wirings.{AreWoken, IsFedAt, SweptAll};
+ghost use Rattle.doc_server_serving.specs.declared.fault.ServeFault.TheVariants as faults;
 ghost use Rattle.doc_store.specs.Store.{StoreState};
 
 use crate::door::Door;
@@ -33,6 +34,7 @@ use doc_server_listen::share::Share;
 use doc_server_network::network::Network;
 use doc_server_network::saved_hub::SavedHub;
 use doc_server_settling::reserve::{RESERVE, SPARE};
+use std::alloc::AllocError;
 use std::rt::Clock;
 use std::time::{Duration, Instant};
 
@@ -79,10 +81,29 @@ impl Server {
     ) -> Result<Server, ServeFault>
         ensures empty { IfOk result (λ server. server.peers ≡ map.empty) }
         ensures most { IfOk result (λ server. server.door.most ≡ connections) }
+        ensures why { IfErr result (λ fault. (fault ≡ faults.Socket) ⊎ (fault ≡ faults.Memory)) }
     {
         let Ok(now) = Instant::now(rt) else {
             return Err(ServeFault::Socket);
         };
+        let server = Server::begun(now, heap, connections, idle_seconds)?;
+        Ok(server)
+    }
+
+    /// Such a server, which begins at this time. Nothing but memory can be lacking for it.
+    pub fn begun(
+        now: Instant,
+        heap: Heap,
+        connections: usize,
+        idle_seconds: u64,
+    ) -> Result<Server, AllocError>
+        ensures empty { IfOk result (λ server. server.peers ≡ map.empty) }
+        ensures door { IfOk result (λ server. server.door
+            ≡ record { most = connections; is_awaited = false; rests = false }) }
+        ensures idle { IfOk result (λ server. server.idle_seconds ≡ idle_seconds) }
+        ensures times { IfOk result (λ server. (server.swept ≡ now) × (server.looked ≡ now)) }
+        ensures awaits { IfOk result (λ server. server.goes_on ≡ false) }
+    {
         let mut server = Server {
             heap,
             peers: Peers::new(heap),
@@ -153,6 +174,10 @@ impl Server {
             net.old net.new self.old.peers self.new.peers }
         ensures bound { map.len self.old.peers ≤ self.old.door.most
             → map.len self.new.peers ≤ self.old.door.most }
+        ensures heard { OnOk result ((s : GoesOn R.page N.came N.gone N.wakes N.is_free
+            saved.old.hub saved.new.hub net.old net.new self.old.peers self.new.peers)
+            × ((k : ℕ) → IsMinded k s.leads.run
+            (map.get self.old.peers k) (map.get self.new.peers k))) }
         ensures most { self.new.door.most ≡ self.old.door.most }
         ensures all { OnOk result (IsAllSaved saved.new) }
         ensures ready { OnOk result (IsReady D.seen D.may_leave D.failed D.stale saved.new) }
@@ -210,6 +235,7 @@ impl Server {
             saved.old.hub saved.new.hub net.old net.new self.old.peers self.new.peers)
             × ((k : ℕ) → HeardAt k s.leads.run
             (map.get self.old.peers k) (map.get self.new.peers k))) }
+        ensures waits { WaitOn self.old.peers self.new.peers }
         ensures fewer { map.len self.new.peers ≤ map.len self.old.peers }
         ensures most { self.new.door.most ≡ self.old.door.most }
         ensures all { OnOk result (IsAllSaved saved.new) }
@@ -257,6 +283,7 @@ impl Server {
         requires free { AreFree saved.old.hub.1.given (N.is_free net.old) }
         ensures goes { GoesOn R.page N.came N.gone N.wakes N.is_free saved.old.hub saved.new.hub
             net.old net.new self.old.peers self.new.peers }
+        ensures waits { WaitOn self.old.peers self.new.peers }
         ensures bound { map.len self.old.peers ≤ self.old.door.most
             → map.len self.new.peers ≤ self.old.door.most }
         ensures most { self.new.door.most ≡ self.old.door.most }
@@ -282,6 +309,7 @@ impl Server {
     ) -> Result<(), ServeFault>
         ensures goes { GoesOn R.page N.came N.gone N.wakes N.is_free saved.old.hub saved.new.hub
             net.old net.new self.old.peers self.new.peers }
+        ensures waits { WaitOn self.old.peers self.new.peers }
         ensures fewer { map.len self.new.peers ≤ map.len self.old.peers }
         ensures most { self.new.door.most ≡ self.old.door.most }
         ensures site { IsSameSite saved.old.hub.1 saved.new.hub.1 }

@@ -1,7 +1,7 @@
 //! How long a peer is silent, counted in sweeps: a turn has one at most, however long it takes.
 
-ghost use Rattle.std.specs.Prelude.{◌≡◌, ◌≤◌, ◌+◌, true, false};
-ghost use Rattle.doc_server_serving.specs.Silences.{heard, is_over, sweeps_until};
+ghost use Rattle.std.specs.Prelude.{◌≡◌, true, false};
+ghost use Rattle.doc_server_serving.specs.Silences.{heard, is_over, swept};
 
 /// How many sweeps a second has at most.
 const SWEEPS_A_SECOND: u64 = 4;
@@ -46,9 +46,8 @@ impl Silence {
 
     /// A sweep is made. True: the peer, which may be silent for so many seconds, is let go.
     pub fn sweep(&mut self, idle_seconds: u64) -> bool
-        ensures same { self.new.lingers ≡ self.old.lingers }
-        ensures one { self.new.sweeps ≤ self.old.sweeps + 1 }
-        ensures over { result ≡ true → sweeps_until idle_seconds self.new.lingers ≤ self.new.sweeps }
+        ensures swept { self.new ≡ swept self.old }
+        ensures over { result ≡ is_over idle_seconds self.new }
     {
         self.sweeps = self.sweeps.saturating_add(1);
         self.is_over(idle_seconds)

@@ -73,6 +73,7 @@ impl Client {
     fn is_idle(&self) -> bool
         ensures idle { result ≡ true → IsReader self.now → ⊥ }
         ensures awake { result ≡ false → self.now.rests ≡ false }
+        ensures stands { result ≡ false → self.now.is_over ≡ false }
         ensures open { result ≡ false → self.now.is_open ≡ true }
         ensures none { result ≡ false → self.now.pending ≡ [] }
     {

@@ -1,6 +1,8 @@
 //! What a network tells of, and the clients that it wakes.
 
+ghost use Rattle.std.specs.Prelude.{◌≡◌, ◌<◌, ◌-◌, ◌^◌, false};
 ghost use Rattle.doc_server_network.specs.Networks.{Rests, Stays};
+ghost use Rattle.doc_server_serving.specs.Hearing.{RouseAll};
 ghost use Rattle.doc_server_serving.specs.Wirings.{AreWoken, Gives};
 
 use crate::peers::Peers;
@@ -16,6 +18,8 @@ pub struct News {
     pub is_lost: bool,
     /// Whether standard input has ended.
     pub input_has_ended: bool,
+    /// How many things it has told. Where they are as many as a `u64` counts, more may be left.
+    pub count: u64,
 }
 
 impl News {
@@ -27,7 +31,9 @@ impl News {
 
 /// Wakes the clients that the network tells of, until it has told all.
 pub fn wake_told<N: Network>(peers: &mut Peers, net: &mut N) -> News
+    ensures all { result.count < 2 ^ 64 - 1 → N.told_all net.new }
     ensures gives { Gives (N.gone net.old) (N.gone net.new) (N.has_ended net.new) peers.old peers.new }
+    ensures rouses { RouseAll peers.old peers.new }
     ensures came { Rests (N.came net.old) (N.came net.new) }
     ensures gone { Rests (N.gone net.old) (N.gone net.new) }
     ensures woken { AreWoken (N.wakes net.old) peers.old → AreWoken (N.wakes net.new) peers.new }
@@ -38,18 +44,23 @@ pub fn wake_told<N: Network>(peers: &mut Peers, net: &mut N) -> News
         is_knocked: false,
         is_lost: false,
         input_has_ended: false,
+        count: 0,
     };
-    'told: for _ in 0..u64::MAX {
+    'told: for count in 0..u64::MAX {
         if !wake_one(peers, net, &mut news) {
+            news.count = count;
             return news;
         }
     }
+    news.count = u64::MAX;
     news
 }
 
 /// Wakes the client that the network tells of next, or notes what else it tells. False: it has told all.
 fn wake_one<N: Network>(peers: &mut Peers, net: &mut N, news: &mut News) -> bool
+    ensures all { result ≡ false → N.told_all net.new }
     ensures gives { Gives (N.gone net.old) (N.gone net.new) (N.has_ended net.new) peers.old peers.new }
+    ensures rouses { RouseAll peers.old peers.new }
     ensures came { Rests (N.came net.old) (N.came net.new) }
     ensures gone { Rests (N.gone net.old) (N.gone net.new) }
     ensures woken { AreWoken (N.wakes net.old) peers.old → AreWoken (N.wakes net.new) peers.new }

@@ -6,10 +6,10 @@ ghost use Rattle.doc_hub.specs.Worlds.{World};
 ghost use Rattle.doc_server_network.specs.Networks.{Rests, Stays};
 ghost use Rattle.doc_server_network.specs.Crashes.{CrashesLeave, RestoresEither};
 ghost use Rattle.doc_server_network.specs.Saved.{IsAllSaved, IsReady, IsSaved, IsSettled};
-ghost use Rattle.doc_server_serving.specs.Hearing.{HeardAt, SparesAll};
+ghost use Rattle.doc_server_serving.specs.Hearing.{HeardAt, SparesAll, WaitOn};
 ghost use Rattle.doc_server_serving.specs.Sharing.{IsModest, SharesTurn};
 ghost use Rattle.doc_server_serving.specs.Turns.{Turns};
-ghost use Rattle.doc_server_serving.specs.Wirings.{AreWoken, Gives, GivesFronts};
+ghost use Rattle.doc_server_serving.specs.Wirings.{AreWoken, EndAll, Gives, GivesFronts, HaveSent};
 ghost use Rattle.doc_store.specs.Store.{StoreState};
 
 use crate::peers::Peers;
@@ -50,6 +50,9 @@ pub fn turn<N: Network, D: Device, R: Renderer + Drop>(
         × SharesTurn ready.now s.run share.old share.new × IsModest ready.now s.run
         × ((k : ℕ) → Contains ready.now k
         → HeardAt k s.run (map.get peers.old k) (map.get peers.new k)) }
+    ensures waits_on { WaitOn peers.old peers.new }
+    ensures sent { OnOk result (HaveSent ready.now peers.new) }
+    ensures ends { OnOk result (EndAll ready.now peers.new peers.new) }
     ensures waits { OnErr result (GivesFronts (N.gone net.old) (N.gone net.new) peers.old) }
     ensures woken { AreWoken (N.wakes net.old) peers.old → AreWoken (N.wakes net.new) peers.new }
     ensures ended { Stays (N.has_ended net.old) (N.has_ended net.new) }
@@ -74,6 +77,7 @@ fn send_settled<N: Network, D: Device, R: Renderer + Drop>(
 )
     requires all { IsAllSaved saved.now }
     ensures gives { Gives (N.gone net.old) (N.gone net.new) (N.has_ended net.new) peers.old peers.new }
+    ensures sent { HaveSent ready.now peers.new }
     ensures spares { SparesAll peers.old peers.new }
     ensures came { Rests (N.came net.old) (N.came net.new) }
     ensures woken { AreWoken (N.wakes net.old) peers.old → AreWoken (N.wakes net.new) peers.new }

@@ -1,7 +1,9 @@
 use Rattle.std.proofs.Common.{ℕ, List, [], refl, ap, arith, sym, subst, take, ◌∙◌}
+use Rattle.std.specs.Prelude.{Contains}
 use Rattle.std.proofs.Math.Seq.{take-length}
 use Rattle.std.proofs.lemmas.List.{take_more}
 use Rattle.doc_server_serving.specs.Turns.{Turns}
+use Rattle.doc_server_serving.proofs.Minding.{out_more, waits_join, waits_nobody}
 use Rattle.doc_server_serving.proofs.LeavingSteps.{leaves_nobody, turns_join}
 use Rattle.doc_server_serving.proofs.Sites.{same_join, same_site}
 use Rattle.doc_server_serving.proofs.letting_go.let_go.Goals as goal
@@ -11,6 +13,8 @@ numbers-init g c = record {
   turns = leaves_nobody (g.R.Renderer.page c.args.saved.now.hub.0) c.args.saved.now.hub.1 [] (g.N.Network.came c.args.net.now)
       (g.N.Network.came c.args.net.now) (g.N.Network.gone c.args.net.now) (g.N.Network.gone c.args.net.now) c.args.peers.now (λ k. refl)
       (λ k. refl);
+  out = λ k among. absurd (omega (arith, among.1));
+  waits = waits_nobody c.args.peers.now;
   woken = λ w. w;
   ended = λ k e. e;
   free = λ k f. f;
@@ -34,6 +38,11 @@ numbers-preserved g c =
           (came c.numbers.net) (came c.let_one_go.new.net) (gone c.args.net.now) (gone c.numbers.net) (gone c.let_one_go.new.net)
           c.args.peers.now c.numbers.peers c.let_one_go.new.peers c.numbers.invariant.same c.numbers.invariant.turns
           c.let_one_go.ensures.turns);
+      out = λ k among.
+          out_more (take c.numbers.id-index c.args.gone.now) _ c.numbers.peers c.let_one_go.new.peers c.let_one_go.ensures.out
+          c.numbers.invariant.out c.let_one_go.ensures.gone k
+          (subst (λ (xs : List ℕ). Contains xs k) (take_more c.args.gone.now c.numbers.id-index 0 c.numbers-test.true) among);
+      waits = waits_join c.args.peers.now c.numbers.peers c.let_one_go.new.peers c.numbers.invariant.waits c.let_one_go.ensures.waits;
       woken = λ w. c.let_one_go.ensures.woken (c.numbers.invariant.woken w);
       ended = λ k e. c.let_one_go.ensures.ended k (c.numbers.invariant.ended k e);
       free = λ k f. c.let_one_go.ensures.free k (c.numbers.invariant.free k f);
@@ -53,3 +62,12 @@ returns-clause-turns g c =
     (came c.args.net.now) (came c.numbers.net) (gone c.args.net.now) (gone c.numbers.net) c.args.peers.now c.numbers.peers)
     (ap (λ n. take n c.args.gone.now) (omega (arith, c.numbers-test.false, c.numbers.auto.id-index-end)) ∙ take-length c.args.gone.now)
     c.numbers.invariant.turns
+
+pub returns-clause-gone : goal.returns-clause-gone
+returns-clause-gone g c =
+    λ k among.
+    c.numbers.invariant.out k
+    (subst (λ (xs : List ℕ). Contains xs k)
+    (sym (ap (λ n. take n c.args.gone.now) (omega (arith, c.numbers-test.false, c.numbers.auto.id-index-end))
+    ∙ take-length c.args.gone.now))
+    among)

@@ -1,6 +1,8 @@
 use Rattle.std.proofs.Common.{refl, sym, ◌∙◌, ◌∷◌, []}
+use Rattle.std.specs.FinMap as map
 use Rattle.doc_hub_events.specs.declared.event.ConnId.{ConnId}
 use Rattle.doc_server_serving.proofs.LeavingSteps.{leaves, leaves_nobody, woken_left}
+use Rattle.doc_server_serving.proofs.Minding.{out_here, out_still, stands_not, waits_nobody, waits_out}
 use Rattle.doc_server_serving.proofs.Sites.{disconnects_same, same_site}
 use Rattle.doc_server_serving.proofs.letting_go.let_one_go.Goals as goal
 
@@ -31,3 +33,18 @@ returns-clause-site g c =
     let id : ConnId = record { 0 = c.args.id } in
     disconnects_same (g.R.Renderer.page c.args.saved.now.hub.0) c.args.saved.now.hub.1 c.disconnect.new.self.hub.1 id _
     c.disconnect.ensures.world
+
+pub returns-then-not-has-clause-gone : goal.returns-then-not-has-clause-gone
+returns-then-not-has-clause-gone g c = stands_not (map.get c.args.peers.now c.args.id) (sym c.has.ensures ∙ c.if-not-has.true)
+
+pub returns-clause-gone : goal.returns-clause-gone
+returns-clause-gone g c = out_here c.args.peers.now c.remove.new.self c.args.id c.remove.ensures
+
+pub returns-clause-out : goal.returns-clause-out
+returns-clause-out g c = out_still c.args.peers.now c.remove.new.self c.args.id c.remove.ensures
+
+pub returns-then-not-has-clause-waits : goal.returns-then-not-has-clause-waits
+returns-then-not-has-clause-waits g c = waits_nobody c.args.peers.now
+
+pub returns-clause-waits : goal.returns-clause-waits
+returns-clause-waits g c = waits_out c.args.peers.now c.remove.new.self c.args.id c.remove.ensures

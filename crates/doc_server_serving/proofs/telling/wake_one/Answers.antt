@@ -1,6 +1,7 @@
 use Rattle.std.proofs.Common.{refl, subst, ℕ}
 use Rattle.std.specs.Prelude.{Some}
 use Rattle.doc_server_network.specs.Networks.{TellsLoss, TellsOf}
+use Rattle.doc_server_serving.proofs.Minding.{rouses_nobody, rouses_woke}
 use Rattle.doc_server_serving.proofs.Tables.{gives_woke, woken_told}
 use Rattle.doc_server_serving.proofs.telling.wake_one.Goals as goal
 
@@ -17,3 +18,16 @@ returns-in-Some-Connection-clause-woken g c =
     let old = g.N.Network.wakes c.args.net.now in let new = g.N.Network.wakes c.told.new.self in
     woken_told old new c.args.peers.now c.wake.new.self c.in-Some-Connection.id c.in-Some-Connection.is_gone c.wake.ensures
     (subst (λ x. (k : ℕ) → (TellsOf (Some x) k → ⊥) → old k → new k) c.in-Some-Connection.field-0-is c.in-Some-Connection.ensures.wakes)
+
+pub returns-in-None-clause-rouses : goal.returns-in-None-clause-rouses
+returns-in-None-clause-rouses g c = rouses_nobody c.args.peers.now
+
+pub returns-in-Some-Connection-clause-rouses : goal.returns-in-Some-Connection-clause-rouses
+returns-in-Some-Connection-clause-rouses g c =
+    rouses_woke c.args.peers.now c.wake.new.self c.in-Some-Connection.id c.in-Some-Connection.is_gone c.wake.ensures
+
+pub returns-in-Some-Door-clause-rouses : goal.returns-in-Some-Door-clause-rouses
+returns-in-Some-Door-clause-rouses g c = rouses_nobody c.args.peers.now
+
+pub returns-in-Some-InputEnds-clause-rouses : goal.returns-in-Some-InputEnds-clause-rouses
+returns-in-Some-InputEnds-clause-rouses g c = rouses_nobody c.args.peers.now

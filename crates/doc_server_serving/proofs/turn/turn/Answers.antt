@@ -1,4 +1,6 @@
 use Rattle.std.proofs.Common.{ap}
+use Rattle.doc_server_serving.proofs.Ending.{ends_turned, sent_turned}
+use Rattle.doc_server_serving.proofs.Minding.{waits_heard, waits_join, waits_spared}
 use Rattle.doc_server_serving.proofs.Tables.{gives_fronts}
 use Rattle.doc_server_serving.proofs.TurnSteps.{begun_sharing, ended_sharing, on_err}
 use Rattle.doc_server_serving.proofs.turn.turn.Goals as goal
@@ -35,3 +37,31 @@ returns-clause-turns g c =
     (g.N.Network.has_ended c.send_settled-2.new.net) c.args.peers.now c.take_in_all.new.self c.send_settled-2.new.peers
     c.finish_all.new.self c.args.share.now c.take_in_all.new.share begun c.send_settled-2.ensures.gives c.send_settled-2.ensures.came
     c.finish_all.ensures.lingers c.send_settled-2.ensures.spares c.finish_all.ensures.spares c.finish_all.ensures.gone
+
+pub returns-clause-sent : goal.returns-clause-sent
+returns-clause-sent g c =
+    sent_turned c.args.ready.now (g.N.Network.came c.send_settled-2.new.net) (g.N.Network.came c.finish_all.new.net)
+    c.send_settled-2.new.peers c.finish_all.new.self c.send_settled-2.ensures.sent c.finish_all.ensures.lingers c.finish_all.ensures.spares
+
+pub returns-clause-ends : goal.returns-clause-ends
+returns-clause-ends g c =
+    ends_turned c.args.ready.now (g.N.Network.came c.send_settled-2.new.net) (g.N.Network.came c.finish_all.new.net)
+    c.send_settled-2.new.peers c.finish_all.new.self c.finish_all.ensures.ends c.finish_all.ensures.lingers c.finish_all.ensures.spares
+
+pub returns-in_err-settle-clause-waits_on : goal.returns-in_err-settle-clause-waits_on
+returns-in_err-settle-clause-waits_on g c =
+    waits_join c.args.peers.now c.send_settled.new.peers c.take_in_all.new.self
+    (waits_spared c.args.peers.now c.send_settled.new.peers c.send_settled.ensures.spares)
+    (waits_heard c.args.ready.now c.take_in_all.ensures.serves.0.run c.send_settled.new.peers c.take_in_all.new.self
+    c.take_in_all.ensures.serves.2)
+
+pub returns-clause-waits_on : goal.returns-clause-waits_on
+returns-clause-waits_on g c =
+    waits_join c.args.peers.now c.take_in_all.new.self c.finish_all.new.self
+    (waits_join c.args.peers.now c.send_settled.new.peers c.take_in_all.new.self
+    (waits_spared c.args.peers.now c.send_settled.new.peers c.send_settled.ensures.spares)
+    (waits_heard c.args.ready.now c.take_in_all.ensures.serves.0.run c.send_settled.new.peers c.take_in_all.new.self
+    c.take_in_all.ensures.serves.2))
+    (waits_join c.take_in_all.new.self c.send_settled-2.new.peers c.finish_all.new.self
+    (waits_spared c.take_in_all.new.self c.send_settled-2.new.peers c.send_settled-2.ensures.spares)
+    (waits_spared c.send_settled-2.new.peers c.finish_all.new.self c.finish_all.ensures.spares))

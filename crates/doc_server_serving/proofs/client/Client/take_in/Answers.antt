@@ -13,7 +13,7 @@ returns-then-not-is_open-clause-serves g c =
     quiet_takes (g.R.Renderer.page c.args.saved.now.hub.0) c.args.saved.now.hub.1 c.read.new.saved.hub.1 c.args.id
     (g.N.Network.came c.args.net.now c.args.id) (g.N.Network.came c.read.new.net c.args.id)
     (g.N.Network.has_ended c.read.new.net c.args.id) c.args.self.now c.read.new.self c.args.share.now
-    (c.is_idle.ensures.awake c.if-is_idle.false) c.read.ensures.serves
+    (c.is_idle.ensures.awake c.if-is_idle.false) (c.is_idle.ensures.stands c.if-is_idle.false) c.read.ensures.serves
 
 pub returns-clause-serves : goal.returns-clause-serves
 returns-clause-serves g c =
@@ -21,5 +21,5 @@ returns-clause-serves g c =
     c.read.new.saved.hub.1 c.answer.new.saved.hub.1 c.args.id (g.N.Network.came c.args.net.now c.args.id)
     (g.N.Network.came c.read.new.net c.args.id) (g.N.Network.has_ended c.read.new.net c.args.id) c.args.self.now c.read.new.self
     c.answer.new.self c.args.share.now c.answer.new.share c.read.ensures.same (sym c.is_open.ensures.open ∙ c.if-not-is_open.false)
-    (c.is_idle.ensures.awake c.if-is_idle.false)
+    (c.is_idle.ensures.awake c.if-is_idle.false) (c.is_idle.ensures.stands c.if-is_idle.false)
     c.read.ensures.serves c.answer.ensures.answers

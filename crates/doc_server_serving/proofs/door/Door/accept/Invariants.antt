@@ -1,6 +1,7 @@
 use Rattle.std.proofs.Common.{◌≡◌, ◌≤◌}
 use Rattle.std.specs.FinMap as map
 use Rattle.doc_server_network.specs.Saved.{IsReady, StaysSaved}
+use Rattle.doc_server_serving.specs.Hearing.{WaitOn}
 use Rattle.doc_server_serving.specs.Invariants.{GoesOn}
 use Rattle.doc_server_serving.specs.Sites.{IsSameSite}
 use Rattle.doc_server_serving.proofs.door.Door.accept.Given as goal
@@ -9,6 +10,7 @@ abbrev pub invariant-accepts : goal.invariant-accepts
 invariant-accepts g l = record {
   goes : GoesOn g.R.Renderer.page g.N.Network.came g.N.Network.gone g.N.Network.wakes g.N.Network.is_free l.fn.saved.hub l.saved.hub
       l.fn.net l.net l.fn.peers l.peers;
+  waits : WaitOn l.fn.peers l.peers;
   bound : map.len l.fn.peers ≤ l.fn.self.most → map.len l.peers ≤ l.fn.self.most;
   most : l.self.most ≡ l.fn.self.most;
   site : IsSameSite l.fn.saved.hub.1 l.saved.hub.1;

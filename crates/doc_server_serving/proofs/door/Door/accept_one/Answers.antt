@@ -1,9 +1,11 @@
 use Rattle.std.proofs.Common.{subst, sym}
+use Rattle.doc_server_serving.specs.Hearing.{WaitOn}
 use Rattle.doc_server_serving.specs.Invariants.{GoesOn}
 use Rattle.doc_server_serving.specs.Wirings.{Table, new_peer}
 use Rattle.doc_server_serving.proofs.Accepting.{free_number, goes_in, goes_not_in, goes_silently, quiet_connect, quiet_drop}
 use Rattle.doc_server_serving.proofs.Bounds.{as_many, none_more, one_more}
 use Rattle.doc_server_serving.proofs.Going.{goes_join}
+use Rattle.doc_server_serving.proofs.Minding.{waits_in, waits_join, waits_nobody, waits_out}
 use Rattle.doc_server_serving.proofs.Sites.{connects_same, disconnects_same, same_join}
 use Rattle.doc_server_serving.proofs.door.Door.accept_one.Goals as goal
 
@@ -90,3 +92,20 @@ pub returns-clause-more : goal.returns-clause-more
 returns-clause-more g c =
     none_more c.args.peers.now c.admit.new.self c.remove.new.self c.in-Ok.id.0 new_peer (c.admit.ensures.taken c.if-not-admit.false)
     c.remove.ensures
+
+pub returns-in_default-clause-waits : goal.returns-in_default-clause-waits
+returns-in_default-clause-waits g c = waits_nobody c.args.peers.now
+
+pub returns-then-not-admit-clause-waits : goal.returns-then-not-admit-clause-waits
+returns-then-not-admit-clause-waits g c =
+    subst (WaitOn c.args.peers.now) (sym (c.admit.ensures.refused c.if-not-admit.true)) (waits_nobody c.args.peers.now)
+
+pub returns-then-asks-clause-waits : goal.returns-then-asks-clause-waits
+returns-then-asks-clause-waits g c =
+    waits_in c.args.peers.now c.admit.new.self c.in-Ok.id.0 (c.admit.ensures.taken c.if-not-admit.false)
+
+pub returns-clause-waits : goal.returns-clause-waits
+returns-clause-waits g c =
+    waits_join c.args.peers.now c.admit.new.self c.remove.new.self
+    (waits_in c.args.peers.now c.admit.new.self c.in-Ok.id.0 (c.admit.ensures.taken c.if-not-admit.false))
+    (waits_out c.admit.new.self c.remove.new.self c.in-Ok.id.0 c.remove.ensures)

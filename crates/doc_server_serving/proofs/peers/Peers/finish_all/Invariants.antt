@@ -1,12 +1,13 @@
-use Rattle.std.proofs.Common.{◌≡◌, length}
+use Rattle.std.proofs.Common.{◌≡◌, length, take}
 use Rattle.doc_server_network.specs.Networks.{Rests, Stays}
 use Rattle.doc_server_serving.specs.Hearing.{SparesAll}
-use Rattle.doc_server_serving.specs.Wirings.{AreWoken, LingerAll}
+use Rattle.doc_server_serving.specs.Wirings.{AreWoken, EndAll, LingerAll}
 use Rattle.doc_server_serving.proofs.peers.Peers.finish_all.Given as goal
 
 abbrev pub invariant-numbers : goal.invariant-numbers
 invariant-numbers g l = record {
   lingers : LingerAll (g.N.Network.came l.fn.net) (g.N.Network.came l.net) l.fn.self l.self;
+  ends : EndAll (take l.id-index l.ready) l.fn.self l.self;
   gone : Rests (g.N.Network.gone l.fn.net) (g.N.Network.gone l.net);
   spares : SparesAll l.fn.self l.self;
   woken : AreWoken (g.N.Network.wakes l.fn.net) l.fn.self → AreWoken (g.N.Network.wakes l.net) l.self;

@@ -7,6 +7,7 @@ use Rattle.std.proofs.lemmas.Map.Lookups.{exact_unsigned}
 use Rattle.doc_page_parts.proofs.Maps.{looked_up, inserted}
 use Rattle.doc_server_serving.specs.Hearing.{SparesAll}
 use Rattle.doc_server_serving.specs.Wirings.{Peer}
+use Rattle.doc_server_serving.proofs.Ending.{ends_here, ends_nobody}
 use Rattle.doc_server_serving.proofs.Hearing.{spares_at, spares_nobody}
 use Rattle.doc_server_serving.proofs.Tables.{woken_at, lingers_at}
 use Rattle.doc_server_serving.proofs.peers.Peers.finish_at.Goals as goal
@@ -51,3 +52,20 @@ returns-in_default-clause-spares g c =
     subst (SparesAll c.args.self.now)
     (sym (ap (λ (t : BTreeMap ℕ Peer). map.from_entries {R = nat_cmp} t.entries) c.get_mut.follows.holds-at-none ∙ c.self.view_is))
     (spares_nobody c.args.self.now)
+
+pub returns-clause-ends : goal.returns-clause-ends
+returns-clause-ends g c =
+    let es = c.self.inside.clients.entries in
+    let h = c.in-Some.ensures.value in
+    let k = (c.get_mut.follows.holds c.finish.new.self).3 in
+    ends_here c.args.self.now _ c.args.id c.in-Some.client.now c.finish.new.self
+    (ap (λ m. map.get m c.args.id) (sym c.self.view_is) ∙ sym (looked_up nat_cmp_total exact_unsigned es c.args.id) ∙ sym h)
+    (inserted nat_cmp_total exact_unsigned es (c.get_mut.follows.lender c.finish.new.self).entries c.args.id c.finish.new.self
+    (k (rw (← h) refl)).0 ∙ ap (λ m. map.insert m c.args.id c.finish.new.self) c.self.view_is)
+    c.finish.ensures.ends
+
+pub returns-in_default-clause-ends : goal.returns-in_default-clause-ends
+returns-in_default-clause-ends g c =
+    ends_nobody c.args.self.now _ c.args.id
+    (ap (λ m. map.get m c.args.id) (sym c.self.view_is)
+    ∙ sym (looked_up nat_cmp_total exact_unsigned c.self.inside.clients.entries c.args.id) ∙ sym c.in_default.ensures.value)

@@ -1,11 +1,13 @@
+use Rattle.std.proofs.Common.{take}
 use Rattle.doc_server_network.specs.Networks.{Rests, Stays}
 use Rattle.doc_server_serving.specs.Hearing.{SparesAll}
-use Rattle.doc_server_serving.specs.Wirings.{AreWoken, Gives}
+use Rattle.doc_server_serving.specs.Wirings.{AreWoken, Gives, HaveSent}
 use Rattle.doc_server_serving.proofs.peers.Peers.send_all.Given as goal
 
 abbrev pub invariant-numbers : goal.invariant-numbers
 invariant-numbers g l = record {
   gives : Gives (g.N.Network.gone l.fn.net) (g.N.Network.gone l.net) (g.N.Network.has_ended l.net) l.fn.self l.self;
+  sent : HaveSent (take l.id-index l.ready) l.self;
   came : Rests (g.N.Network.came l.fn.net) (g.N.Network.came l.net);
   spares : SparesAll l.fn.self l.self;
   woken : AreWoken (g.N.Network.wakes l.fn.net) l.fn.self → AreWoken (g.N.Network.wakes l.net) l.self;

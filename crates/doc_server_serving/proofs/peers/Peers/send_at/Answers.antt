@@ -6,7 +6,8 @@ use Rattle.std.proofs.lemmas.Cmp.{nat_cmp_total}
 use Rattle.std.proofs.lemmas.Map.Lookups.{exact_unsigned}
 use Rattle.doc_page_parts.proofs.Maps.{looked_up, inserted}
 use Rattle.doc_server_serving.specs.Hearing.{SparesAll}
-use Rattle.doc_server_serving.specs.Wirings.{Peer}
+use Rattle.doc_server_serving.specs.Wirings.{HasSentAt, Peer, Table}
+use Rattle.doc_server_serving.proofs.Ending.{sent_here, sent_nobody}
 use Rattle.doc_server_serving.proofs.Hearing.{spares_at, spares_nobody}
 use Rattle.doc_server_serving.proofs.Tables.{woken_at, gives_at}
 use Rattle.doc_server_serving.proofs.peers.Peers.send_at.Goals as goal
@@ -51,3 +52,21 @@ returns-in_default-clause-spares g c =
     subst (SparesAll c.args.self.now)
     (sym (ap (λ (t : BTreeMap ℕ Peer). map.from_entries {R = nat_cmp} t.entries) c.get_mut.follows.holds-at-none ∙ c.self.view_is))
     (spares_nobody c.args.self.now)
+
+pub returns-clause-sent : goal.returns-clause-sent
+returns-clause-sent g c =
+    let es = c.self.inside.clients.entries in
+    let h = c.in-Some.ensures.value in
+    let k = (c.get_mut.follows.holds c.send.new.self).3 in
+    sent_here c.args.self.now _ c.args.id c.send.new.self
+    (inserted nat_cmp_total exact_unsigned es (c.get_mut.follows.lender c.send.new.self).entries c.args.id c.send.new.self
+    (k (rw (← h) refl)).0 ∙ ap (λ m. map.insert m c.args.id c.send.new.self) c.self.view_is)
+    c.send.ensures.sent
+
+pub returns-in_default-clause-sent : goal.returns-in_default-clause-sent
+returns-in_default-clause-sent g c =
+    subst (λ (t : Table). HasSentAt (map.get t c.args.id))
+    (sym (ap (λ (t : BTreeMap ℕ Peer). map.from_entries {R = nat_cmp} t.entries) c.get_mut.follows.holds-at-none ∙ c.self.view_is))
+    (sent_nobody c.args.self.now c.args.id
+    (ap (λ m. map.get m c.args.id) (sym c.self.view_is)
+    ∙ sym (looked_up nat_cmp_total exact_unsigned c.self.inside.clients.entries c.args.id) ∙ sym c.in_default.ensures.value))

@@ -2,6 +2,7 @@ use Rattle.std.proofs.Common.{◌≤◌, arith, subst, ◌∙◌}
 use Rattle.std.specs.FinMap as map
 use Rattle.doc_server_serving.proofs.Fewer.{fewer_swept}
 use Rattle.doc_server_serving.proofs.Going.{goes_join, goes_swept}
+use Rattle.doc_server_serving.proofs.Minding.{waits_join, waits_swept}
 use Rattle.doc_server_serving.proofs.Sites.{same_join}
 use Rattle.doc_server_serving.proofs.server.Server.end_turn.Goals as goal
 
@@ -61,3 +62,17 @@ returns-clause-bound g c =
     let most = c.let_over_go.ensures.most ∙ c.sweep.ensures.most in
     subst (λ n. map.len c.accept.new.peers ≤ n) most
     (c.accept.ensures.bound (omega (arith, le, swept, c.let_over_go.ensures.fewer, most)))
+
+pub returns-in_err-is_swept-clause-waits : goal.returns-in_err-is_swept-clause-waits
+returns-in_err-is_swept-clause-waits g c = waits_swept c.args.self.now.peers c.sweep.new.self.peers c.sweep.ensures.swept
+
+pub returns-in_err-let_over_go-clause-waits : goal.returns-in_err-let_over_go-clause-waits
+returns-in_err-let_over_go-clause-waits g c =
+    waits_join c.args.self.now.peers c.sweep.new.self.peers c.let_over_go.new.self.peers
+    (waits_swept c.args.self.now.peers c.sweep.new.self.peers c.sweep.ensures.swept) c.let_over_go.ensures.waits
+
+pub returns-clause-waits : goal.returns-clause-waits
+returns-clause-waits g c =
+    waits_join c.args.self.now.peers c.sweep.new.self.peers c.accept.new.peers
+    (waits_swept c.args.self.now.peers c.sweep.new.self.peers c.sweep.ensures.swept)
+    (waits_join c.sweep.new.self.peers c.let_over_go.new.self.peers c.accept.new.peers c.let_over_go.ensures.waits c.accept.ensures.waits)

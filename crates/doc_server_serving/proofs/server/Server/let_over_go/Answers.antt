@@ -2,6 +2,7 @@ use Rattle.std.proofs.Common.{refl}
 use Rattle.doc_server_serving.proofs.Accepting.{goes_silently, quiet_none}
 use Rattle.doc_server_serving.proofs.Fewer.{fewer_turned}
 use Rattle.doc_server_serving.proofs.Going.{goes_turns}
+use Rattle.doc_server_serving.proofs.Minding.{waits_nobody}
 use Rattle.doc_server_serving.proofs.Sites.{same_site}
 use Rattle.doc_server_serving.proofs.server.Server.let_over_go.Goals as goal
 
@@ -35,3 +36,9 @@ returns-clause-fewer g c =
     fewer_turned (g.R.Renderer.page c.args.saved.now.hub.0) c.args.saved.now.hub.1 c.let_go.new.saved.hub.1 _
     (g.N.Network.came c.args.net.now) (g.N.Network.came c.let_go.new.net) (g.N.Network.gone c.args.net.now)
     (g.N.Network.gone c.let_go.new.net) c.args.self.now.peers c.let_go.new.peers c.let_go.ensures.turns
+
+pub returns-then-not-looks-clause-waits : goal.returns-then-not-looks-clause-waits
+returns-then-not-looks-clause-waits g c = waits_nobody c.args.self.now.peers
+
+pub returns-in_err-collect_over-clause-waits : goal.returns-in_err-collect_over-clause-waits
+returns-in_err-collect_over-clause-waits g c = waits_nobody c.args.self.now.peers

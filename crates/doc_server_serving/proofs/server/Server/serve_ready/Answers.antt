@@ -9,6 +9,7 @@ use Rattle.doc_server_serving.proofs.Fewer.{fewer_turned}
 use Rattle.doc_server_serving.proofs.Going.{goes_join, goes_turns}
 use Rattle.doc_server_serving.proofs.Hearing.{all_heard, heard_longer}
 use Rattle.doc_server_serving.proofs.Listed.{among_them, listed}
+use Rattle.doc_server_serving.proofs.Minding.{waits_nobody}
 use Rattle.doc_server_serving.proofs.server.Server.serve_ready.Goals as goal
 
 pub turn-requires-clause-all : goal.turn-requires-clause-all
@@ -167,3 +168,6 @@ returns-clause-heard g c =
           (among_them c.args.self.now.first c.args.self.now.peers k part))
           c.turn.ensures.turns.3 k),
     )
+
+pub returns-in_err-collect-clause-waits : goal.returns-in_err-collect-clause-waits
+returns-in_err-collect-clause-waits g c = waits_nobody c.args.self.now.peers

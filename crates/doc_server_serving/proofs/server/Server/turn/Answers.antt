@@ -1,8 +1,10 @@
-use Rattle.std.proofs.Common.{◌≤◌, arith, subst, ◌∙◌}
+use Rattle.std.proofs.Common.{◌≤◌, ℕ, ap, arith, subst, ◌∙◌}
 use Rattle.std.specs.FinMap as map
+use Rattle.doc_server_serving.specs.Hearing.{IsMinded}
 use Rattle.doc_server_serving.proofs.Crashing.{ended_behind, nothing_written, room_before, served_behind}
 use Rattle.doc_server_serving.proofs.Fewer.{fewer_given}
 use Rattle.doc_server_serving.proofs.Going.{goes_join}
+use Rattle.doc_server_serving.proofs.Minding.{minded, minded_on}
 use Rattle.doc_server_serving.proofs.Sites.{all_saved_too, settled_too}
 use Rattle.doc_server_serving.proofs.Turning.{goes_begun, goes_looked, goes_waited}
 use Rattle.doc_server_serving.proofs.server.Server.turn.Goals as goal
@@ -136,7 +138,7 @@ returns-in_err-end_turn-clause-bound g c =
     λ le.
     let told = fewer_given (g.N.Network.gone c.wait.new.self) (g.N.Network.gone c.wake_told-news.new.net)
     (g.N.Network.has_ended c.wake_told-news.new.net) c.args.self.now.peers c.wake_told-news.new.peers c.wake_told-news.ensures.gives in
-    let most = c.serve_ready.ensures.most ∙ c.hear.ensures in
+    let most = c.serve_ready.ensures.most ∙ ap (λ d. d.most) c.hear.ensures in
     subst (λ n. map.len c.end_turn.new.self.peers ≤ n) most
     (c.end_turn.ensures.bound (omega (arith, le, told, c.serve_ready.ensures.fewer, most)))
 
@@ -145,7 +147,7 @@ returns-clause-bound g c =
     λ le.
     let told = fewer_given (g.N.Network.gone c.wait.new.self) (g.N.Network.gone c.wake_told-news.new.net)
     (g.N.Network.has_ended c.wake_told-news.new.net) c.args.self.now.peers c.wake_told-news.new.peers c.wake_told-news.ensures.gives in
-    let most = c.serve_ready.ensures.most ∙ c.hear.ensures in
+    let most = c.serve_ready.ensures.most ∙ ap (λ d. d.most) c.hear.ensures in
     subst (λ n. map.len c.end_turn.new.self.peers ≤ n) most
     (c.end_turn.ensures.bound (omega (arith, le, told, c.serve_ready.ensures.fewer, most)))
 
@@ -205,3 +207,43 @@ returns-clause-any_moment g c =
     c.serve_ready.new.saved.hub.1 c.args.saved.now.journal c.look.new.saved.journal c.serve_ready.new.saved.journal all c.look.ensures.site
     (c.look.ensures.any_moment config c.args.saved.now.hub.1 is.0)
     (c.serve_ready.ensures.any_moment config all (c.in_ok-look.ensures.settled config is)))
+
+pub returns-then-ends-clause-heard : goal.returns-then-ends-clause-heard
+returns-then-ends-clause-heard g c =
+    let P = g.R.Renderer.page in let C = g.N.Network.came in let G = g.N.Network.gone in
+    let W = g.N.Network.wakes in let F = g.N.Network.is_free in
+    let begun = goes_begun P C G W F c.args.saved.now.hub c.look.new.saved.hub c.args.net.now c.wait.new.self c.wake_told-news.new.net
+    c.args.self.now.peers c.wake_told-news.new.peers c.wait.ensures.wakes c.wait.ensures.free c.wait.ensures.came c.wait.ensures.gone
+    c.look.ensures.same c.look.ensures.quiet (g.N.Network.has_ended c.wake_told-news.new.net) c.wake_told-news.ensures.gives
+    c.wake_told-news.ensures.came c.wake_told-news.ensures.gone c.wake_told-news.ensures.woken c.wake_told-news.ensures.free in
+    let served = goes_join P C G W F c.args.saved.now.hub c.look.new.saved.hub c.serve_ready.new.saved.hub c.args.net.now
+    c.wake_told-news.new.net c.serve_ready.new.net c.args.self.now.peers c.wake_told-news.new.peers c.serve_ready.new.self.peers begun
+    c.in_ok-serve_ready.ensures.heard.0 in
+    let first : (k : ℕ) → IsMinded k served.leads.run (map.get c.args.self.now.peers k) (map.get c.serve_ready.new.self.peers k) =
+    λ k.
+    minded k begun.leads.run c.in_ok-serve_ready.ensures.heard.0.leads.run (map.get c.args.self.now.peers k)
+    (map.get c.wake_told-news.new.peers k) (map.get c.serve_ready.new.self.peers k) (c.wake_told-news.ensures.rouses k)
+    (c.in_ok-serve_ready.ensures.heard.1 k) (c.serve_ready.ensures.waits k) in (served, first)
+
+pub returns-clause-heard : goal.returns-clause-heard
+returns-clause-heard g c =
+    let P = g.R.Renderer.page in let C = g.N.Network.came in let G = g.N.Network.gone in
+    let W = g.N.Network.wakes in let F = g.N.Network.is_free in
+    let begun = goes_begun P C G W F c.args.saved.now.hub c.look.new.saved.hub c.args.net.now c.wait.new.self c.wake_told-news.new.net
+    c.args.self.now.peers c.wake_told-news.new.peers c.wait.ensures.wakes c.wait.ensures.free c.wait.ensures.came c.wait.ensures.gone
+    c.look.ensures.same c.look.ensures.quiet (g.N.Network.has_ended c.wake_told-news.new.net) c.wake_told-news.ensures.gives
+    c.wake_told-news.ensures.came c.wake_told-news.ensures.gone c.wake_told-news.ensures.woken c.wake_told-news.ensures.free in
+    let served = goes_join P C G W F c.args.saved.now.hub c.look.new.saved.hub c.serve_ready.new.saved.hub c.args.net.now
+    c.wake_told-news.new.net c.serve_ready.new.net c.args.self.now.peers c.wake_told-news.new.peers c.serve_ready.new.self.peers begun
+    c.in_ok-serve_ready.ensures.heard.0 in
+    let first : (k : ℕ) → IsMinded k served.leads.run (map.get c.args.self.now.peers k) (map.get c.serve_ready.new.self.peers k) =
+    λ k.
+    minded k begun.leads.run c.in_ok-serve_ready.ensures.heard.0.leads.run (map.get c.args.self.now.peers k)
+    (map.get c.wake_told-news.new.peers k) (map.get c.serve_ready.new.self.peers k) (c.wake_told-news.ensures.rouses k)
+    (c.in_ok-serve_ready.ensures.heard.1 k) (c.serve_ready.ensures.waits k) in (
+      goes_join P C G W F c.args.saved.now.hub c.serve_ready.new.saved.hub c.end_turn.new.saved.hub c.args.net.now c.serve_ready.new.net
+          c.end_turn.new.net c.args.self.now.peers c.serve_ready.new.self.peers c.end_turn.new.self.peers served c.end_turn.ensures.goes,
+      λ k.
+          minded_on k served.leads.run c.end_turn.ensures.goes.leads.run (map.get c.args.self.now.peers k)
+          (map.get c.serve_ready.new.self.peers k) (map.get c.end_turn.new.self.peers k) (first k) (c.end_turn.ensures.waits k),
+    )
