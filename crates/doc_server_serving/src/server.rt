@@ -86,7 +86,7 @@ impl Server {
         let Ok(now) = Instant::now(rt) else {
             return Err(ServeFault::Socket);
         };
-        let server = Server::begun(now, heap, connections, idle_seconds)?;
+        let server = Server::begun(now, heap, connections, limits)?;
         Ok(server)
     }
 
@@ -95,12 +95,12 @@ impl Server {
         now: Instant,
         heap: Heap,
         connections: usize,
-        idle_seconds: u64,
+        limits: Limits,
     ) -> Result<Server, AllocError>
         ensures empty { IfOk result (λ server. server.peers ≡ map.empty) }
         ensures door { IfOk result (λ server. server.door
             ≡ record { most = connections; is_awaited = false; rests = false }) }
-        ensures idle { IfOk result (λ server. server.idle_seconds ≡ idle_seconds) }
+        ensures limits { IfOk result (λ server. server.limits ≡ limits) }
         ensures times { IfOk result (λ server. (server.swept ≡ now) × (server.looked ≡ now)) }
         ensures awaits { IfOk result (λ server. server.goes_on ≡ false) }
     {

@@ -3,8 +3,7 @@
 ghost use Rattle.std.specs.Prelude.{◌≡◌, true, false};
 ghost use Rattle.doc_server_serving.specs.Silences.{heard, is_over, swept};
 
-/// How many sweeps a second has at most.
-const SWEEPS_A_SECOND: u64 = 4;
+use crate::limits::SWEEPS_A_SECOND;
 
 /// For how many seconds a peer that was sent its last reply may go on sending.
 const LINGERS: u64 = 2;
