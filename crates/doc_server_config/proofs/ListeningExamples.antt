@@ -10,7 +10,7 @@ use Rattle.doc_store_readers.specs.Groups.{groups_of_names}
 use Rattle.doc_server_config.specs.declared.folder.FolderFault.TheVariants.{OtherKey, BadFile, BadPrefix, BadGroups, BadExcept, BadNames, BadReadme}
 use Rattle.doc_server_config.specs.declared.folder.FolderFault.TheVariants.{BadMedia, BadOnBad}
 use Rattle.doc_server_config.specs.declared.listening.ListeningError.TheVariants.{BadToml, BadListen, BadConnections, BadIdleSeconds, BadMediaBytes}
-use Rattle.doc_server_config.specs.declared.listening.ListeningError.TheVariants.{BadFolders, BadFolder}
+use Rattle.doc_server_config.specs.declared.listening.ListeningError.TheVariants.{BadFolders, BadFolder, BadStrangerSeconds, BadRequestSeconds}
 use Rattle.doc_server_config.specs.Excepted.{is_excepted}
 use Rattle.doc_server_config.specs.FileNames.{path_in_folder}
 use Rattle.doc_server_config.specs.Listenings.{listening_of}
