@@ -10,7 +10,7 @@ use crate::limits::Limits;
 use crate::sending::send_replies;
 use crate::silence::Silence;
 use crate::stage::Stage;
-use crate::stranger::{Stranger, is_for_whoever};
+use crate::stranger::Stranger;
 use crate::unfinished::Unfinished;
 use doc_page_parts::bytes::Bytes;
 use doc_page_parts::heap::Heap;
@@ -140,8 +140,15 @@ impl Client {
             return;
         }
         let waiting = (self.replies.len(), self.sent);
-        let strange = self.strange_replies();
-        match send_replies(id, net, permit, &mut self.replies, &mut self.sent) {
+        let sent = send_replies(
+            id,
+            net,
+            permit,
+            &mut self.replies,
+            &mut self.sent,
+            &mut self.stranger.is_known,
+        );
+        match sent {
             Ok(true) => {}
             Ok(false) => self.rests = true,
             Err(_) => self.stage = Stage::Over,
@@ -149,23 +156,6 @@ impl Client {
         if waiting != (self.replies.len(), self.sent) {
             self.silence.hear();
         }
-        if self.replies.len() + strange < waiting.0 {
-            self.stranger.is_known = true;
-        }
-    }
-
-    /// How many replies wait before the first one that not whoever asks is given.
-    fn strange_replies(&self) -> usize
-        ensures { result ≤ deque_len self.now.replies.items }
-    {
-        let mut count = 0;
-        'replies: for reply in self.replies.iter() {
-            if !is_for_whoever(reply.get()) {
-                return count;
-            }
-            count += 1;
-        }
-        count
     }
 
     /// Ends its part in a turn. Behind its last reply it lingers. Where it waits for nothing but its part of a turn, it isn't its peer that is
