@@ -37,7 +37,7 @@ pub struct Client {
 }
 
 impl Model for Client {
-    ghost use Rattle.std.specs.Prelude.{◌&&◌, ◌==◌};
+    ghost use Rattle.std.specs.Prelude.{◌&&◌, ◌==◌, not};
     ghost use Rattle.std.specs.VecDeque.{deque_len};
     ghost use Rattle.doc_server_serving.specs.Replies.{Starts, is_open_in, is_over_in, is_reading_in, left_of};
     ghost use Rattle.doc_server_serving.specs.Wirings.{Peer};
@@ -51,6 +51,7 @@ impl Model for Client {
       starves = l.is_starved && (deque_len l.replies == 0);
       is_over = is_over_in l.stage;
       reads = is_reading_in l.stage && (deque_len l.replies == 0);
+      owes = not (deque_len l.replies == 0);
       lingers = l.silence.lingers;
     } };
 
@@ -87,6 +88,7 @@ impl Client {
 
     /// Whether a reply isn't handed over in full.
     pub fn has_pending(&self) -> bool
+        ensures owes { result ≡ self.now.owes }
         ensures none { result ≡ false → self.now.pending ≡ [] }
         ensures reads { self.now.reads ≡ true → result ≡ false }
     {
@@ -173,7 +175,13 @@ impl Client {
         ensures free { Stays (N.is_free net.old) (N.is_free net.new) }
         ensures room { length piece.new ≡ length piece.old }
     {
-        if self.stage == Stage::Over || self.rests || self.has_pending() {
+        if self.is_over() {
+            return;
+        }
+        if self.rests {
+            return;
+        }
+        if self.has_pending() {
             return;
         }
         if !self.is_open() {
