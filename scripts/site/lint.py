@@ -263,6 +263,14 @@ def journals():
     os.mkdir("kept")
     journal_told("a folder", None, [": cannot open journal"], "cannot open journal")
     os.rmdir("kept")
+    # pages of folders, of which one is moved at the start
+    put("guide/README.md", "Guide\n")
+    put("site.toml", GOOD + folder("folder") + folder("guide", 'prefix = "guide"\nreadme = true\n'))
+    for name, texts, paths in (("over folders", [], []), ("a folder's page", [b"put in.md - B\n", b"remove a.md\n"], ["a.md", "in.md"]),
+                               ("an index", [b"put guide/index.md - B\n"], ["guide/index.md"])):
+        put("kept", journal_of(texts))
+        journal_told(name, got("kept"), [EDITED.replace("a.md", path) for path in paths], "")
+    os.remove("kept")
     # a document's fault, or a file's, is told alone
     for text in (GOOD + "[[reader]]\n", GOOD + folder("nowhere")):
         put("site.toml", text)
