@@ -1,6 +1,10 @@
 -- How long a peer may be a stranger, and send a request, in sweeps. All of this is this project's choice.
-use Rattle.std.specs.Prelude.{ℕ, ◌==◌, ◌+◌, ◌-◌, ◌*◌, ◌^◌, List, Bool, not, ◌&&◌, ◌||◌, nat_le, min, codes, if◌then◌else◌}
+use Rattle.std.specs.Prelude.{ℕ, ◌==◌, ◌+◌, ◌-◌, ◌*◌, ◌^◌, List, length, Bool, false, not, ◌&&◌, ◌||◌, nat_le, min, codes}
+use Rattle.std.specs.Prelude.{Option, Some, None, if◌then◌else◌}
 use Rattle.std.specs.List.{starts_with}
+use Rattle.doc_hub.specs.StepLaws.{connection}
+use Rattle.doc_hub.specs.Worlds.{World}
+use Rattle.doc_hub.specs.declared.connection.Connection.{Connection}
 use Rattle.doc_server_serving.specs.declared.stranger.Stranger.{Stranger}
 use Rattle.doc_server_serving.specs.declared.unfinished.Unfinished.{Unfinished}
 
@@ -16,6 +20,14 @@ is_refusal reply =
 -- whoever asks is given such a reply, or the style sheet
 abbrev pub is_for_whoever : List ℕ → Bool
 is_for_whoever reply = is_refusal reply || begins_with (codes "HTTP/1.1 200 OK\r\nContent-Type: text/css;") reply
+
+-- whether bytes of a connection aren't answered yet
+abbrev pub has_unread_at : Option Connection → Bool
+has_unread_at None = false
+has_unread_at (Some k) = not (length k.unread == 0)
+
+abbrev pub has_unread : World → ℕ → Bool
+has_unread w id = has_unread_at (connection id w)
 
 -- one sweep more, up to the largest count
 abbrev pub one_more : ℕ → ℕ

@@ -1,6 +1,6 @@
 //! How long a peer is a stranger, counted in sweeps: one that was handed over nothing but what whoever asks is given.
 
-ghost use Rattle.std.specs.Prelude.{◌≡◌, ◌||◌, not};
+ghost use Rattle.std.specs.Prelude.{◌≡◌, ◌||◌, false, not};
 ghost use Rattle.doc_server_serving.specs.Strangers.{is_for_whoever, is_over, is_refusal, one_more};
 
 use crate::limits::SWEEPS_A_SECOND;

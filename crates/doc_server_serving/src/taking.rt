@@ -11,6 +11,7 @@ ghost use Rattle.doc_server_network.specs.Saved.{IsReady, StaysSaved, may_step};
 ghost use Rattle.doc_server_serving.specs.Hearing.{Hears, IsReader, WasHeard};
 ghost use Rattle.doc_server_serving.specs.Replies.{most_pending};
 ghost use Rattle.doc_server_serving.specs.Servings.{Answers, Serves};
+ghost use Rattle.doc_server_serving.specs.Strangers.{has_unread};
 
 use crate::client::Client;
 use crate::stage::Stage;

@@ -1,6 +1,6 @@
 //! How long a request isn't whole, counted in sweeps.
 
-ghost use Rattle.std.specs.Prelude.{◌≡◌};
+ghost use Rattle.std.specs.Prelude.{◌≡◌, false};
 ghost use Rattle.doc_server_serving.specs.Strangers.{is_late, later};
 
 use crate::limits::SWEEPS_A_SECOND;
