@@ -65,3 +65,9 @@ returns-clause-waits_on g c =
     (waits_join c.take_in_all.new.self c.send_settled-2.new.peers c.finish_all.new.self
     (waits_spared c.take_in_all.new.self c.send_settled-2.new.peers c.send_settled-2.ensures.spares)
     (waits_spared c.send_settled-2.new.peers c.finish_all.new.self c.finish_all.ensures.spares))
+
+pub returns-clause-woken : goal.returns-clause-woken
+returns-clause-woken g c =
+    λ w.
+    c.finish_all.ensures.woken
+    (c.send_settled-2.ensures.woken (c.take_in_all.ensures.woken (c.send_settled.ensures.woken w)))
