@@ -6,7 +6,8 @@ use Rattle.std.proofs.lemmas.List.Elements.{Contains-append_cases}
 use Rattle.doc_server_serving.specs.Hearing.{Spares, SparesAll, SparesAt}
 use Rattle.doc_server_serving.specs.Wirings.{EndAll, Ends, EndsAt, Gives, GivesOne, HandsOver, HasSent, HasSentAt, HaveSent, LingerAll, Lingers, LingersAt, Peer, Table}
 use Rattle.doc_server_serving.proofs.Hearing.{none_of, only}
-use Rattle.doc_server_serving.proofs.Tables.{get_same, not_both}
+use Rattle.doc_server_serving.proofs.Tables.{get_same}
+use Rattle.doc_server_serving.proofs.Wiring.{not_both}
 
 here : (t u : Table) (id : ℕ) (q : Peer) → u ≡ map.insert t id q → map.get u id ≡ Some q
 here t u id q is = ap (λ m. map.get m id) is ∙ get_same t id q id (eq-eqb id id refl)
@@ -72,9 +73,9 @@ ends_after c d e (Some p) q None lingers ends more = tt
 ends_after c d e (Some p) None (Some r) lingers ends more = absurd lingers
 ends_after c d e (Some p) (Some q) (Some r) lingers ends more = λ shut awake none. by q.rests refl shut awake none
   where
-    by : (b : Bool) → q.rests ≡ b → p.is_open ≡ false → p.rests ≡ false → p.pending ≡ [] → (r.lingers ≡ true) ⊎ (r.is_over ≡ true)
+    by : (b : Bool) → q.rests ≡ b → p.is_open ≡ false → p.rests ≡ false → p.owes ≡ false → (r.lingers ≡ true) ⊎ (r.is_over ≡ true)
     by true rests shut awake none = inl (more.stays (lingers.tires awake rests))
-    by false stands shut awake none = ends (lingers.opened ∙ shut) stands (lingers.pending ∙ none)
+    by false stands shut awake none = ends (lingers.opened ∙ shut) stands (lingers.owes ∙ none)
 
 pub ends_more : (numbers : List ℕ) (id : ℕ) (c d e : ℕ → Option (List ℕ)) (t u v : Table) → EndAll numbers t u → LingerAll c d t u
     → EndsAt (map.get u id) (map.get v id) → LingerAll d e u v → SparesAll u v → EndAll (numbers ++ id ∷ []) t v
@@ -110,10 +111,10 @@ ended_so c d p None ends lingers spares = tt
 ended_so c d None (Some q) ends lingers spares = absurd lingers
 ended_so c d (Some p) (Some q) ends lingers spares = λ shut awake none. by p.rests refl shut awake none
   where
-    by : (b : Bool) → p.rests ≡ b → q.is_open ≡ false → q.rests ≡ false → q.pending ≡ [] → (q.lingers ≡ true) ⊎ (q.is_over ≡ true)
+    by : (b : Bool) → p.rests ≡ b → q.is_open ≡ false → q.rests ≡ false → q.owes ≡ false → (q.lingers ≡ true) ⊎ (q.is_over ≡ true)
     by true rests shut awake none =
         absurd (not_both q.rests (ap (λ (x : Peer). x.rests) (spares.resting rests) ∙ rests) awake)
-    by false stands shut awake none = ends (sym lingers.opened ∙ shut) stands (sym lingers.pending ∙ none)
+    by false stands shut awake none = ends (sym lingers.opened ∙ shut) stands (sym lingers.owes ∙ none)
 
 pub ends_turned : (numbers : List ℕ) (c d : ℕ → Option (List ℕ)) (t u : Table) → EndAll numbers t u → LingerAll c d t u → SparesAll t u
     → EndAll numbers u u

@@ -10,7 +10,8 @@ use Rattle.doc_server_serving.specs.Parts.{takes_part}
 use Rattle.doc_server_serving.specs.Wirings.{Peer, SweptAll, SweptAt, Table, WokeAt, new_peer, woken}
 use Rattle.doc_server_serving.proofs.Hearing.{heard_first, heard_last, only}
 use Rattle.doc_server_serving.proofs.LeavingSteps.{get_gone}
-use Rattle.doc_server_serving.proofs.Tables.{get_other, get_same, not_both}
+use Rattle.doc_server_serving.proofs.Tables.{get_other, get_same}
+use Rattle.doc_server_serving.proofs.Wiring.{not_both}
 
 -- ---- who stands no more
 
@@ -153,7 +154,7 @@ pub rouses_join : (t u v : Table) → RouseAll t u → RouseAll u v → RouseAll
 rouses_join t u v a b = λ k. rouses_one_join (map.get t k) (map.get u k) (map.get v k) (a k) (b k)
 
 rests_not : (rests starves over : Bool) → not (rests || starves || over) ≡ true → rests ≡ false
-rests_not true starves over e = e
+rests_not true starves over e = sym e
 rests_not false starves over e = refl
 
 still_awake : (p : Peer) → p.rests ≡ false → record p { rests = false } ≡ p

@@ -128,6 +128,7 @@ pub drained : (old new : ℕ → Option (List ℕ)) (id : ℕ) (bytes : List ℕ
 drained old new id bytes p shut moves = record {
   pending = refl;
   opened = refl;
+  owes = refl;
   input = (bytes, moved_at old new id bytes moves, λ o. absurd (not_both p.is_open o shut));
   stays = λ l. l;
   tires = λ awake rests. absurd (not_both p.rests rests awake);
@@ -140,6 +141,7 @@ lingers_not a b (Some p) same =
     record {
       pending = refl;
       opened = refl;
+      owes = refl;
       input = ([], same ∙ sym (append_none a), λ o. refl);
       stays = λ l. l;
       tires = λ awake rests. absurd (not_both p.rests rests awake);
@@ -172,6 +174,7 @@ lingers_one_join a b c (Some p) (Some q) None g h = h
 lingers_one_join a b c (Some p) (Some q) (Some r) g h = record {
   pending = h.pending ∙ g.pending;
   opened = h.opened ∙ g.opened;
+  owes = h.owes ∙ g.owes;
   input = (
     g.input.0 ++ h.input.0,
     h.input.1 ∙ ap (λ known. append_known known h.input.0) g.input.1 ∙ append_join a g.input.0 h.input.0,

@@ -6,8 +6,8 @@ use Rattle.std.specs.Io.KnownBytes.{append_known}
 
 -- What contracts see of a client: the bytes of replies that aren't handed over yet; whether its connection is still its own; whether it rests
 -- until the network tells of it; whether it starves, so that it waits for the next sweep; whether it is over, so that it is let
--- go; whether it reads next: nothing is pending, and what was read holds no further request; and whether it lingers: behind its last reply
--- its peer was told of the end.
+-- go; whether it reads next: nothing is pending, and what was read holds no further request; whether it owes a reply that isn't handed
+-- over in full; and whether it lingers: behind its last reply its peer was told of the end.
 pub record Peer : Type 0 where
   pub pending : List ℕ
   pub is_open : Bool
@@ -15,6 +15,7 @@ pub record Peer : Type 0 where
   pub starves : Bool
   pub is_over : Bool
   pub reads : Bool
+  pub owes : Bool
   pub lingers : Bool
 
 -- the clients by the numbers of their connections
@@ -23,7 +24,7 @@ Table = map.FinMap nat_cmp Peer
 
 -- a client whose connection was just made
 abbrev pub new_peer : Peer
-new_peer = record { pending = []; is_open = true; rests = true; starves = false; is_over = false; reads = true; lingers = false }
+new_peer = record { pending = []; is_open = true; rests = true; starves = false; is_over = false; reads = true; owes = false; lingers = false }
 
 -- ---- one connection
 
@@ -119,6 +120,7 @@ GivesFronts old new table = (k : ℕ) → GivesFront (old k) (new k) (map.get ta
 pub record Lingers (c d : Option (List ℕ)) (p q : Peer) : Type 0 where
   pub pending : q.pending ≡ p.pending
   pub opened : q.is_open ≡ p.is_open
+  pub owes : q.owes ≡ p.owes
   pub input : (lost : List ℕ) × (d ≡ append_known c lost) × (p.is_open ≡ true → lost ≡ [])
   pub stays : p.lingers ≡ true → q.lingers ≡ true
   pub tires : p.rests ≡ false → q.rests ≡ true → q.lingers ≡ true
@@ -132,9 +134,9 @@ LingersAt c d p q = ⊥
 abbrev pub LingerAll : (ℕ → Option (List ℕ)) → (ℕ → Option (List ℕ)) → Table → Table → Type 0
 LingerAll c d before after = (k : ℕ) → LingersAt (c k) (d k) (map.get before k) (map.get after k)
 
--- Whoever is closed and awake, with nothing pending, lingers from here on, or is over.
+-- Whoever is closed and awake, and owes no reply, lingers from here on, or is over.
 abbrev pub Ends : Peer → Peer → Type 0
-Ends p q = p.is_open ≡ false → p.rests ≡ false → p.pending ≡ [] → (q.lingers ≡ true) ⊎ (q.is_over ≡ true)
+Ends p q = p.is_open ≡ false → p.rests ≡ false → p.owes ≡ false → (q.lingers ≡ true) ⊎ (q.is_over ≡ true)
 
 abbrev pub EndsAt : Option Peer → Option Peer → Type 0
 EndsAt (Some p) (Some q) = Ends p q

@@ -10,7 +10,7 @@ use crate::limits::Limits;
 use crate::sending::send_replies;
 use crate::silence::Silence;
 use crate::stage::Stage;
-use crate::stranger::{Stranger, is_for_whoever};
+use crate::stranger::Stranger;
 use crate::unfinished::Unfinished;
 use doc_page_parts::bytes::Bytes;
 use doc_page_parts::heap::Heap;
@@ -37,7 +37,7 @@ pub struct Client {
 }
 
 impl Model for Client {
-    ghost use Rattle.std.specs.Prelude.{◌&&◌, ◌==◌};
+    ghost use Rattle.std.specs.Prelude.{◌&&◌, ◌==◌, not};
     ghost use Rattle.std.specs.VecDeque.{deque_len};
     ghost use Rattle.doc_server_serving.specs.Replies.{Starts, is_open_in, is_over_in, is_reading_in, left_of};
     ghost use Rattle.doc_server_serving.specs.Wirings.{Peer};
@@ -51,6 +51,7 @@ impl Model for Client {
       starves = l.is_starved && (deque_len l.replies == 0);
       is_over = is_over_in l.stage;
       reads = is_reading_in l.stage && (deque_len l.replies == 0);
+      owes = not (deque_len l.replies == 0);
       lingers = l.silence.lingers;
     } };
 
@@ -87,6 +88,7 @@ impl Client {
 
     /// Whether a reply isn't handed over in full.
     pub fn has_pending(&self) -> bool
+        ensures owes { result ≡ self.now.owes }
         ensures none { result ≡ false → self.now.pending ≡ [] }
         ensures reads { self.now.reads ≡ true → result ≡ false }
     {
@@ -140,8 +142,15 @@ impl Client {
             return;
         }
         let waiting = (self.replies.len(), self.sent);
-        let strange = self.strange_replies();
-        match send_replies(id, net, permit, &mut self.replies, &mut self.sent) {
+        let sent = send_replies(
+            id,
+            net,
+            permit,
+            &mut self.replies,
+            &mut self.sent,
+            &mut self.stranger.is_known,
+        );
+        match sent {
             Ok(true) => {}
             Ok(false) => self.rests = true,
             Err(_) => self.stage = Stage::Over,
@@ -149,23 +158,6 @@ impl Client {
         if waiting != (self.replies.len(), self.sent) {
             self.silence.hear();
         }
-        if self.replies.len() + strange < waiting.0 {
-            self.stranger.is_known = true;
-        }
-    }
-
-    /// How many replies wait before the first one that not whoever asks is given.
-    fn strange_replies(&self) -> usize
-        ensures { result ≤ deque_len self.now.replies.items }
-    {
-        let mut count = 0;
-        'replies: for reply in self.replies.iter() {
-            if !is_for_whoever(reply.get()) {
-                return count;
-            }
-            count += 1;
-        }
-        count
     }
 
     /// Ends its part in a turn. Behind its last reply it lingers. Where it waits for nothing but its part of a turn, it isn't its peer that is
@@ -183,7 +175,13 @@ impl Client {
         ensures free { Stays (N.is_free net.old) (N.is_free net.new) }
         ensures room { length piece.new ≡ length piece.old }
     {
-        if self.stage == Stage::Over || self.rests || self.has_pending() {
+        if self.is_over() {
+            return;
+        }
+        if self.rests {
+            return;
+        }
+        if self.has_pending() {
             return;
         }
         if !self.is_open() {

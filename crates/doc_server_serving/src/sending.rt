@@ -5,6 +5,7 @@ ghost use Rattle.doc_server_network.specs.Networks.{Rests, RestsBut, Stays, Stay
 ghost use Rattle.doc_server_serving.specs.Replies.{Starts, left_of};
 ghost use Rattle.doc_server_serving.specs.Wirings.{HandsOver};
 
+use crate::stranger::note_handed;
 use doc_page_parts::bytes::Bytes;
 use doc_page_parts::heap::Heap;
 use doc_server_network::net_fault::NetFault;
@@ -12,13 +13,15 @@ use doc_server_network::network::Network;
 use doc_server_network::permit::Permit;
 use std::collections::VecDeque;
 
-/// Hands replies over until all are, or the connection takes no more yet. Of the first one `sent` bytes were handed over. True: all are.
+/// Hands replies over until all are, or the connection takes no more yet. Of the first one `sent` bytes were handed over. Its peer is known
+/// once one is handed over in full that not whoever asks is given. True: all are.
 pub fn send_replies<N: Network>(
     id: u64,
     net: &mut N,
     permit: &Permit<'_>,
     replies: &mut VecDeque<Bytes, Heap>,
     sent: &mut usize,
+    is_known: &mut bool,
 ) -> Result<bool, NetFault>
     requires starts { Starts sent.old replies.old.items }
     ensures gives { HandsOver (N.gone net.old id) (N.gone net.new id)
@@ -37,6 +40,7 @@ pub fn send_replies<N: Network>(
         if !send_reply(id, net, permit, reply.get(), sent)? {
             return Ok(false);
         }
+        note_handed(is_known, reply.get());
         let _ = replies.pop_front();
         *sent = 0;
     }

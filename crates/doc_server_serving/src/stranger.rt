@@ -1,6 +1,6 @@
 //! How long a peer is a stranger, counted in sweeps: one that was handed over nothing but what whoever asks is given.
 
-ghost use Rattle.std.specs.Prelude.{◌≡◌};
+ghost use Rattle.std.specs.Prelude.{◌≡◌, ◌||◌, not};
 ghost use Rattle.doc_server_serving.specs.Strangers.{is_for_whoever, is_over, is_refusal, one_more};
 
 use crate::limits::SWEEPS_A_SECOND;
@@ -8,9 +8,16 @@ use crate::limits::SWEEPS_A_SECOND;
 /// For how many seconds a stranger stays while as many peers are served as may be.
 const CROWDED_SECONDS: u64 = 1;
 
+/// A reply was handed over in full: who is given one that not whoever asks is given is known.
+pub fn note_handed(is_known: &mut bool, reply: &[u8])
+    ensures { is_known.new ≡ (is_known.old || not (is_for_whoever reply.now)) }
+{
+    *is_known = *is_known || !is_for_whoever(reply);
+}
+
 /// Whether whoever asks is given a reply of these bytes: one to what can't be read, isn't signed in, is too large or isn't done, or the
 /// style sheet.
-pub fn is_for_whoever(reply: &[u8]) -> bool
+fn is_for_whoever(reply: &[u8]) -> bool
     ensures { result ≡ is_for_whoever reply.now }
 {
     is_refusal(reply) || reply.starts_with(b"HTTP/1.1 200 OK\r\nContent-Type: text/css;")
