@@ -12,6 +12,7 @@ use doc_hub::hub::Hub;
 use doc_page::renderer::Renderer;
 use doc_server_journal::device::Device;
 use doc_server_journal::journal::Journal;
+use doc_server_serving::fault::ServeFault;
 use doc_server_serving::named_file::NamedFile;
 use doc_server_settling::reserve::{RESERVE, SPARE, has_room_to_remove, keep_reserve};
 
@@ -34,7 +35,9 @@ pub fn make_room<D: Device + NamedFile, R: Renderer + Drop, F: Drop>(
         (nat_le reserve journal.new.room)) }
     ensures same { R.page hub.new.0 ≡ R.page hub.old.0 }
 {
-    keep_reserve(journal, hub, RESERVE + SPARE)?;
+    if let Err(fault) = keep_reserve(journal, hub, RESERVE + SPARE) {
+        return Err(HostingFault::Serve(ServeFault::from(fault)));
+    }
     if !hub.takes_puts() {
         journal.device.tell_room(false);
     }
