@@ -39,8 +39,6 @@ pub enum Allow {
     Write,
     /// What texts are sent to: POST.
     Post,
-    /// What has no method (RFC 9110, section 10.2.1).
-    Nothing,
 }
 
 impl Reply {
@@ -86,7 +84,6 @@ impl Allow {
             Allow::Read => "GET, HEAD",
             Allow::Write => "PUT",
             Allow::Post => "POST",
-            Allow::Nothing => "",
         }
     }
 }

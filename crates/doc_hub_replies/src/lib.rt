@@ -10,4 +10,3 @@ mod asked;
 mod beside;
 pub mod laws;
 pub mod serving;
-mod taking;

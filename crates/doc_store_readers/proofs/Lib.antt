@@ -1,7 +1,5 @@
-pub mod CopySteps
 mod Examples
 pub mod EntrySteps
-pub mod FindLaws
 pub mod FilterSteps
 pub mod GroupLaws
 pub mod GroupSteps
