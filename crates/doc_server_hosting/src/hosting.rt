@@ -1,10 +1,11 @@
 //! A site served on a host.
 
-ghost use Rattle.std.specs.Prelude.{◌≡◌, ◌≤◌, ℕ, Ok, IfOk, OnOk, option_copied};
+ghost use Rattle.std.specs.Prelude.{◌≡◌, ◌≤◌, ℕ, None, Ok, IfOk, OnOk, is_some, option_copied};
 ghost use Rattle.std.specs.FinMap as map;
 ghost use Rattle.doc_server_hosting.specs.Hostings.{IsHosted};
 ghost use Rattle.doc_server_hosting.specs.Hosts.{IsUnused};
 ghost use Rattle.doc_server_network.specs.Crashes.{CrashesLeave};
+ghost use Rattle.doc_server_network.specs.Networks.{end_of_input};
 ghost use Rattle.doc_server_network.specs.Saved.{IsAllSaved, IsReady, IsSettled};
 ghost use Rattle.doc_server_serving.specs.Crashing.{AreKnown, RestoresFront};
 ghost use Rattle.doc_server_serving.specs.Invariants.{HasServedNobody, IsServed};
@@ -25,12 +26,14 @@ use doc_server_network::network::Network;
 use doc_server_network::saved_hub::SavedHub;
 use doc_server_network::watch::Watch;
 use doc_server_network::watched::Watched;
+use doc_server_serving::fault::ServeFault;
 use doc_server_serving::named_file::NamedFile;
 use doc_server_serving::server::Server;
 use std::rt::Clock;
+use std::time::Instant;
 
 /// Serves a hub that has the pages of a configuration, with the journal that the terms name, if they do, until it is told to stop. Somebody
-/// may watch what passes. All pages stand, and the journal's edits are made, before the address is bound; peers are accepted behind the word
+/// may watch what passes, and is handed back. All pages stand, and the journal's edits are made, before the address is bound; peers are accepted behind the word
 /// that it is. At an `Err` nobody was accepted.
 pub fn host_site<H: Host, R: Renderer + Drop, C: Clock, W: Watch + Drop>(
     rt: &C,
@@ -39,20 +42,42 @@ pub fn host_site<H: Host, R: Renderer + Drop, C: Clock, W: Watch + Drop>(
     hub: Hub<R>,
     terms: &Terms<'_>,
     watch: Option<W>,
-) -> Result<Ended<H::Device, H::Network, R>, HostingFault<H::Fault>>
+) -> Result<Ended<H::Device, H::Network, R, W>, HostingFault<H::Fault>>
     ensures hosted { IfOk result (λ ended. IsHosted H.Device.seen H.Device.may_leave
         H.Device.failed H.Device.stale H.Device.moment H.Device.left_since (R.page hub.0)
         (H.file host.now) (option_copied terms.now.journal) hub.1 ended.saved
         (H.Network.came ended.net) (H.Network.gone ended.net) (ended.served ≡ Ok tt)) }
     ensures woken { IfOk result (λ ended. AreWoken (H.Network.wakes ended.net) ended.server.peers) }
     ensures bound { IfOk result (λ ended. map.len ended.server.peers ≤ terms.now.connections) }
+    ensures ends { IfOk result (λ ended. OnOk ended.served
+        (H.Network.made ended.net end_of_input)) }
+    ensures watch { IfOk result (λ ended. is_some ended.watch ≡ is_some watch) }
 {
     let saved = saved_hub(heap, host, hub, terms.journal)?;
-    let server = Server::new(rt, heap, terms.connections, terms.limits)?;
+    let server = new_server(rt, heap, terms)?;
     let net = bound(heap, host)?;
     match watch {
         Some(watch) => Ok(serve(rt, server, Watched::new(heap, net, watch), saved).unwatched()),
         None => Ok(serve(rt, server, net, saved)),
+    }
+}
+
+/// A server without clients, which begins now.
+fn new_server<C: Clock, F: Drop>(
+    rt: &C,
+    heap: Heap,
+    terms: &Terms<'_>,
+) -> Result<Server, HostingFault<F>>
+    ensures empty { IfOk result (λ server. server.peers ≡ map.empty) }
+    ensures most { IfOk result (λ server. server.door.most ≡ terms.now.connections) }
+    ensures limits { IfOk result (λ server. server.limits ≡ terms.now.limits) }
+{
+    let Ok(now) = Instant::now(rt) else {
+        return Err(HostingFault::Serve(ServeFault::Socket));
+    };
+    match Server::new(now, heap, terms.connections, terms.limits) {
+        Ok(server) => Ok(server),
+        Err(_) => Err(HostingFault::Serve(ServeFault::Memory)),
     }
 }
 
@@ -72,12 +97,13 @@ fn bound<H: Host>(heap: Heap, host: &H) -> Result<H::Network, HostingFault<H::Fa
 }
 
 /// Serves until it is told to stop.
-fn serve<N: Network + Drop, D: Device + NamedFile + Drop, R: Renderer + Drop, C: Clock>(
-    rt: &C,
-    server: Server,
-    net: N,
-    saved: SavedHub<D, R>,
-) -> Ended<D, N, R>
+fn serve<
+    N: Network + Drop,
+    D: Device + NamedFile + Drop,
+    R: Renderer + Drop,
+    W: Watch + Drop,
+    C: Clock,
+>(rt: &C, server: Server, net: N, saved: SavedHub<D, R>) -> Ended<D, N, R, W>
     requires all { IsAllSaved saved }
     requires ready { IsReady D.seen D.may_leave D.failed D.stale saved }
     requires new { HasServedNobody saved.hub.1.given (N.came net) (N.gone net)
@@ -91,6 +117,8 @@ fn serve<N: Network + Drop, D: Device + NamedFile + Drop, R: Renderer + Drop, C:
         saved.journal result.saved.journal) }
     ensures woken { AreWoken (N.wakes result.net) result.server.peers }
     ensures bound { map.len result.server.peers ≤ server.door.most }
+    ensures ends { OnOk result.served (N.made result.net end_of_input) }
+    ensures watch { result.watch ≡ None }
     ensures settled { (config : StoreState)
         → IsSettled D.seen D.may_leave D.failed D.stale config saved
         → OnOk result.served (IsSettled D.seen D.may_leave D.failed D.stale config result.saved) }
@@ -103,6 +131,7 @@ fn serve<N: Network + Drop, D: Device + NamedFile + Drop, R: Renderer + Drop, C:
         saved,
         net,
         server,
+        watch: None,
         served,
     }
 }

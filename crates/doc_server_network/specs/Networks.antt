@@ -1,6 +1,8 @@
 -- What the calls of a network do to the bytes of its connections, by their numbers.
-use Rattle.std.specs.Prelude.{◌≡◌, ℕ, List, [], true, ◌==◌, Option, Some, Result, Ok, Err, if◌then◌else◌}
+use Rattle.std.specs.Prelude.{◌≡◌, ◌<◌, ⊤, ℕ, List, [], Bool, true, ◌==◌, Option, Some, Result, Ok, Err, if◌then◌else◌}
 use Rattle.std.specs.Io.KnownBytes.{append_known}
+use Rattle.doc_server_network.specs.declared.accepted.Accepted.{Accepted}
+use Rattle.doc_server_network.specs.declared.accepted.Accepted.TheVariants as accepts
 use Rattle.doc_server_network.specs.declared.came.Came.{Came}
 use Rattle.doc_server_network.specs.declared.came.Came.TheVariants as cames
 use Rattle.doc_server_network.specs.declared.net_fault.NetFault.{NetFault}
@@ -48,3 +50,33 @@ Stays old new = (k : ℕ) → old k → new k
 
 abbrev pub StaysBut : ℕ → (ℕ → Type 0) → (ℕ → Type 0) → Type 0
 StaysBut id old new = (k : ℕ) → (k ≡ id → ⊥) → old k → new k
+
+-- A call of a network, with the number of its connection and what it answered.
+pub data Call : Type 0 where
+  Waits : Result ⊤ NetFault → Call
+  Tells : Option Told → Call
+  Accepts : ℕ → Accepted → Call
+  Reads : ℕ → Result Came NetFault → Call
+  Writes : ℕ → Result ℕ NetFault → Call
+  Ends : ℕ → Bool → Call
+  Closes : ℕ → Call
+
+-- each call that was made before was made behind it
+abbrev pub Recalls : (Call → Type 0) → (Call → Type 0) → Type 0
+Recalls old new = (c : Call) → old c → new c
+
+-- the network has told that standard input has ended
+abbrev pub end_of_input : Call
+end_of_input = Tells (Some tolds.InputEnds)
+
+-- it was waited for
+abbrev pub WasWaitedFor : (Call → Type 0) → Type 0
+WasWaitedFor made = (r : Result ⊤ NetFault) × made (Waits r)
+
+-- it was asked for a peer, under a number above this one
+abbrev pub WasAsked : ℕ → (Call → Type 0) → Type 0
+WasAsked given made = (id : ℕ) × (a : Accepted) × (given < id) × made (Accepts id a)
+
+-- it has answered that nobody waits, under a number above this one
+abbrev pub HasNobody : ℕ → (Call → Type 0) → Type 0
+HasNobody given made = (id : ℕ) × (given < id) × made (Accepts id accepts.Nobody)

@@ -1,6 +1,6 @@
 //! A reply that was handed over.
 
-ghost use Rattle.std.specs.Prelude.{◌≤◌};
+ghost use Rattle.std.specs.Prelude.{◌≡◌, ◌≤◌, length};
 
 /// A reply that was handed over.
 #[derive(Clone, Copy)]
@@ -13,7 +13,9 @@ pub struct Handed {
 
 impl Handed {
     /// The reply of these bytes.
-    pub fn of(reply: &[u8]) -> Handed {
+    pub fn of(reply: &[u8]) -> Handed
+        ensures { result.bytes ≡ length reply.now }
+    {
         Handed {
             code: code_of(reply),
             bytes: reply.len(),

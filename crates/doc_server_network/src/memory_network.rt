@@ -154,6 +154,7 @@ impl MemoryNetwork {
 }
 
 impl Network for MemoryNetwork {
+    ghost use Rattle.std.specs.Prelude.{⊤};
     ghost use Rattle.doc_server_network.specs.Memories.{IsAllTold, memory_came, memory_gone, has_none, memory_ended, memory_wakes};
 
     ghost came = { memory_came };
@@ -167,6 +168,8 @@ impl Network for MemoryNetwork {
     ghost has_ended = { memory_ended };
 
     ghost told_all = { IsAllTold };
+
+    ghost made = { λ _ _. ⊤ };
 
     fn wait(&mut self, _most: Duration) -> Result<(), NetFault>
         ensures fails { IsErr result ↔ (waits_of self.old ≡ 0) }

@@ -148,6 +148,8 @@ impl Network for MioNetwork {
 
     ghost told_all = { λ _. ⊤ };
 
+    ghost made = { λ _ _. ⊤ };
+
     fn wait(&mut self, most: Duration) -> Result<(), NetFault> {
         self.told = 0;
         match self.poll.poll(&mut self.events, Some(most)) {

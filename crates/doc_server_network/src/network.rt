@@ -1,7 +1,7 @@
 //! A network: connections by their numbers, and calls that never wait but one.
 
 ghost use Rattle.std.specs.Prelude.{◌≡◌, ◌≤◌, ℕ, List, Option, None, length, take, IfOk, OnErr};
-ghost use Rattle.doc_server_network.specs.Networks.{came_len, took_len, Moves, Rests, Stays, StaysBut, TellsLoss, TellsOf};
+ghost use Rattle.doc_server_network.specs.Networks.{came_len, took_len, Accepts, Call, Closes, Ends, Moves, Reads, Recalls, Rests, Stays, StaysBut, Tells, TellsLoss, TellsOf, Waits, Writes};
 
 use crate::accepted::Accepted;
 use crate::came::Came;
@@ -30,13 +30,18 @@ pub trait Network {
     /// Whether all that the last wait has found was told.
     ghost told_all: { Self → Type 0 };
 
+    /// Whether a call was made, and answered so.
+    ghost made: { Self → Call → Type 0 };
+
     /// Waits for so long at most, until there is something to tell. No other call waits.
     fn wait(&mut self, most: Duration) -> Result<(), NetFault>
         ensures wakes { Stays (wakes self.old) (wakes self.new) }
         ensures came { Rests (came self.old) (came self.new) }
         ensures gone { Rests (gone self.old) (gone self.new) }
         ensures ended { Stays (has_ended self.old) (has_ended self.new) }
-        ensures free { Stays (is_free self.old) (is_free self.new) };
+        ensures free { Stays (is_free self.old) (is_free self.new) }
+        ensures call { made self.new (Waits result) }
+        ensures calls { Recalls (made self.old) (made self.new) };
 
     /// The next of what the wait has found, until nothing is left of it.
     fn told(&mut self) -> Option<Told>
@@ -46,7 +51,9 @@ pub trait Network {
         ensures came { Rests (came self.old) (came self.new) }
         ensures gone { Rests (gone self.old) (gone self.new) }
         ensures ended { Stays (has_ended self.old) (has_ended self.new) }
-        ensures free { Stays (is_free self.old) (is_free self.new) };
+        ensures free { Stays (is_free self.old) (is_free self.new) }
+        ensures call { made self.new (Tells result) }
+        ensures calls { Recalls (made self.old) (made self.new) };
 
     /// Accepts the next peer under this number, where one waits.
     fn accept(&mut self, id: u64) -> Accepted
@@ -57,7 +64,9 @@ pub trait Network {
         ensures gone { Rests (gone self.old) (gone self.new) }
         ensures ended { StaysBut id (has_ended self.old) (has_ended self.new) }
         ensures free { StaysBut id (is_free self.old) (is_free self.new) }
-        ensures refused { (result ≡ Accepted.Peer → ⊥) → is_free self.new id };
+        ensures refused { (result ≡ Accepted.Peer → ⊥) → is_free self.new id }
+        ensures call { made self.new (Accepts id result) }
+        ensures calls { Recalls (made self.old) (made self.new) };
 
     /// Reads some bytes of that connection into the front of the buffer. A read that fails takes nothing.
     fn read(&mut self, id: u64, buf: &mut [u8]) -> Result<Came, NetFault>
@@ -70,7 +79,9 @@ pub trait Network {
         ensures came { Moves (came self.old) (came self.new) id (take (came_len result) buf.new) }
         ensures gone { Rests (gone self.old) (gone self.new) }
         ensures ended { Stays (has_ended self.old) (has_ended self.new) }
-        ensures free { Stays (is_free self.old) (is_free self.new) };
+        ensures free { Stays (is_free self.old) (is_free self.new) }
+        ensures call { made self.new (Reads id result) }
+        ensures calls { Recalls (made self.old) (made self.new) };
 
     /// Hands over some of the bytes, from the front, on that connection, and answers how many, none where it takes none yet. A write
     /// that fails hands over nothing. Who has a permit may hand over.
@@ -82,7 +93,9 @@ pub trait Network {
         ensures gone { Moves (gone self.old) (gone self.new) id (take (took_len result) buf.now) }
         ensures came { Rests (came self.old) (came self.new) }
         ensures ended { Stays (has_ended self.old) (has_ended self.new) }
-        ensures free { Stays (is_free self.old) (is_free self.new) };
+        ensures free { Stays (is_free self.old) (is_free self.new) }
+        ensures call { made self.new (Writes id result) }
+        ensures calls { Recalls (made self.old) (made self.new) };
 
     /// Ends what is written on that connection, so that its peer sees the end behind the last byte. True: it was done.
     fn end(&mut self, id: u64) -> bool
@@ -90,7 +103,9 @@ pub trait Network {
         ensures came { Rests (came self.old) (came self.new) }
         ensures gone { Rests (gone self.old) (gone self.new) }
         ensures ended { Stays (has_ended self.old) (has_ended self.new) }
-        ensures free { Stays (is_free self.old) (is_free self.new) };
+        ensures free { Stays (is_free self.old) (is_free self.new) }
+        ensures call { made self.new (Ends id result) }
+        ensures calls { Recalls (made self.old) (made self.new) };
 
     /// Lets a connection go.
     fn close(&mut self, id: u64)
@@ -98,5 +113,7 @@ pub trait Network {
         ensures came { Rests (came self.old) (came self.new) }
         ensures gone { Rests (gone self.old) (gone self.new) }
         ensures ended { Stays (has_ended self.old) (has_ended self.new) }
-        ensures free { Stays (is_free self.old) (is_free self.new) };
+        ensures free { Stays (is_free self.old) (is_free self.new) }
+        ensures call { made self.new (Closes id) }
+        ensures calls { Recalls (made self.old) (made self.new) };
 }

@@ -35,7 +35,8 @@ impl<N: Network + Drop, W: Watch + Drop> Drop for Watched<N, W> {
 impl<N: Network + Drop, W: Watch + Drop> Watched<N, W> {
     /// A network of which somebody is told from now on.
     pub fn new(heap: Heap, net: N, watch: W) -> Watched<N, W>
-        ensures { result.net ≡ net }
+        ensures net { result.net ≡ net }
+        ensures watch { result.watch ≡ watch }
     {
         Watched {
             net,
@@ -44,16 +45,16 @@ impl<N: Network + Drop, W: Watch + Drop> Watched<N, W> {
         }
     }
 
-    /// The network, of which nobody is told any more.
-    pub fn into_network(self) -> N
-        ensures { result ≡ self.net }
+    /// The network, of which nobody is told any more, and who was.
+    pub fn into_parts(self) -> (N, W)
+        ensures { result ≡ (self.net, self.watch) }
     {
         let Watched {
             net,
-            watch: _,
+            watch,
             begun: _,
         } = self;
-        net
+        (net, watch)
     }
 
     /// Tells a reply once it is handed over in full. A write is passed what is left of one reply, and took so many bytes of that.
@@ -94,6 +95,8 @@ impl<N: Network + Drop, W: Watch + Drop> Network for Watched<N, W> {
     ghost has_ended = { λ watched. N.has_ended watched.net };
 
     ghost told_all = { λ watched. N.told_all watched.net };
+
+    ghost made = { λ watched. N.made watched.net };
 
     fn wait(&mut self, most: Duration) -> Result<(), NetFault> {
         self.watch.end_turn();

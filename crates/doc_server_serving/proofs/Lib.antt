@@ -1,5 +1,6 @@
 mod Accepting
 mod AnswerSteps
+mod Asking
 mod Bounds
 pub mod Crashing
 mod Ending
@@ -14,6 +15,7 @@ mod Listed
 pub mod HandingOver
 mod Minding
 mod Modesty
+mod NewsSteps
 mod ReadSteps
 mod ServingSteps
 mod Sites

@@ -1,4 +1,5 @@
 pub mod Crashing
+pub mod Doors
 pub mod Faults
 pub mod Hearing
 pub mod Invariants
@@ -11,5 +12,6 @@ pub mod Sharing
 pub mod Silences
 pub mod Sites
 pub mod Strangers
+pub mod Tellings
 pub mod Turns
 pub mod Wirings

@@ -1,7 +1,7 @@
 //! A client: the replies to a connection's peer that aren't handed over yet, and what is done with it next.
 
 ghost use Rattle.std.specs.Prelude.{◌≡◌, ◌⊎◌, true, false, [], length};
-ghost use Rattle.doc_server_network.specs.Networks.{Rests, RestsBut, Stays, StaysBut};
+ghost use Rattle.doc_server_network.specs.Networks.{Recalls, Rests, RestsBut, Stays, StaysBut};
 ghost use Rattle.doc_server_serving.specs.Hearing.{Spares};
 ghost use Rattle.doc_server_serving.specs.Parts.{takes_part};
 ghost use Rattle.doc_server_serving.specs.Wirings.{ClosesBy, Ends, HandsOver, HasSent, Lingers, Swept, new_peer, woken};
@@ -137,6 +137,7 @@ impl Client {
         ensures wakes { StaysBut id (N.wakes net.old) (N.wakes net.new) }
         ensures ended { Stays (N.has_ended net.old) (N.has_ended net.new) }
         ensures free { Stays (N.is_free net.old) (N.is_free net.new) }
+        ensures calls { Recalls (N.made net.old) (N.made net.new) }
     {
         if self.rests || self.stage == Stage::Over || !self.has_pending() {
             return;
@@ -173,6 +174,7 @@ impl Client {
         ensures wakes { StaysBut id (N.wakes net.old) (N.wakes net.new) }
         ensures ended { Stays (N.has_ended net.old) (N.has_ended net.new) }
         ensures free { Stays (N.is_free net.old) (N.is_free net.new) }
+        ensures calls { Recalls (N.made net.old) (N.made net.new) }
         ensures room { length piece.new ≡ length piece.old }
     {
         if self.is_over() {
@@ -206,6 +208,7 @@ impl Client {
         ensures wakes { StaysBut id (N.wakes net.old) (N.wakes net.new) }
         ensures ended { Stays (N.has_ended net.old) (N.has_ended net.new) }
         ensures free { Stays (N.is_free net.old) (N.is_free net.new) }
+        ensures calls { Recalls (N.made net.old) (N.made net.new) }
         ensures room { length piece.new ≡ length piece.old }
     {
         if self.silence.lingers {
@@ -233,6 +236,7 @@ impl Client {
         ensures wakes { StaysBut id (N.wakes net.old) (N.wakes net.new) }
         ensures ended { Stays (N.has_ended net.old) (N.has_ended net.new) }
         ensures free { Stays (N.is_free net.old) (N.is_free net.new) }
+        ensures calls { Recalls (N.made net.old) (N.made net.new) }
         ensures room { length piece.new ≡ length piece.old }
     {
         match net.read(id, piece) {

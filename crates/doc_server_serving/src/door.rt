@@ -1,8 +1,10 @@
 //! Accepting peers.
 
-ghost use Rattle.std.specs.Prelude.{◌≡◌, ◌≤◌, ◌<◌, ◌+◌, ◌&&◌, ◌||◌, nat_lt, not, false, true};
+ghost use Rattle.doc_server_network.specs.declared.accepted.Accepted.{Accepted};
+ghost use Rattle.doc_server_serving.specs.Doors.{is_open};
+ghost use Rattle.std.specs.Prelude.{◌≡◌, ◌≤◌, ◌<◌, ◌+◌, ◌||◌, ◌⊎◌, false, true};
 ghost use Rattle.std.specs.FinMap as map;
-ghost use Rattle.doc_server_network.specs.Networks.{Rests, StaysBut};
+ghost use Rattle.doc_server_network.specs.Networks.{Accepts, HasNobody, Recalls, Rests, StaysBut, WasAsked};
 ghost use Rattle.doc_server_network.specs.Saved.{IsReady, StaysSaved};
 ghost use Rattle.doc_server_serving.specs.Hearing.{WaitOn};
 ghost use Rattle.doc_server_serving.specs.Invariants.{AreFree, GoesOn};
@@ -58,8 +60,7 @@ impl Door {
 
     /// Whether a peer can be accepted now.
     pub fn is_open(&self, peers: &Peers) -> bool
-        ensures open { result ≡ (self.now.is_awaited && not self.now.rests
-            && nat_lt (map.len peers.now) self.now.most) }
+        ensures open { result ≡ is_open self.now (map.len peers.now) }
         ensures room { result ≡ true → map.len peers.now < self.now.most }
     {
         self.is_awaited && !self.rests && peers.count() < self.most
@@ -78,6 +79,12 @@ impl Door {
             net.old net.new peers.old peers.new }
         ensures waits { WaitOn peers.old peers.new }
         ensures bound { map.len peers.old ≤ self.old.most → map.len peers.new ≤ self.old.most }
+        ensures awaits { (self.new.is_awaited ≡ self.old.is_awaited)
+            ⊎ HasNobody saved.old.hub.1.given (N.made net.new) }
+        ensures rests { self.old.rests ≡ true → self.new.rests ≡ true }
+        ensures asked { is_open self.new (map.len peers.new) ≡ true
+            → WasAsked saved.old.hub.1.given (N.made net.new) }
+        ensures calls { Recalls (N.made net.old) (N.made net.new) }
         ensures most { self.new.most ≡ self.old.most }
         ensures site { IsSameSite saved.old.hub.1 saved.new.hub.1 }
         ensures saved { StaysSaved D.seen D.may_leave D.failed D.stale saved.old saved.new }
@@ -107,6 +114,11 @@ impl Door {
             net.old net.new peers.old peers.new }
         ensures waits { WaitOn peers.old peers.new }
         ensures more { map.len peers.new ≤ map.len peers.old + 1 }
+        ensures awaits { (self.new.is_awaited ≡ self.old.is_awaited)
+            ⊎ HasNobody saved.old.hub.1.given (N.made net.new) }
+        ensures rests { self.old.rests ≡ true → self.new.rests ≡ true }
+        ensures asked { (self.new.rests ≡ true) ⊎ WasAsked saved.old.hub.1.given (N.made net.new) }
+        ensures calls { Recalls (N.made net.old) (N.made net.new) }
         ensures most { self.new.most ≡ self.old.most }
         ensures site { IsSameSite saved.old.hub.1 saved.new.hub.1 }
         ensures saved { StaysSaved D.seen D.may_leave D.failed D.stale saved.old saved.new }
@@ -139,6 +151,11 @@ impl Door {
         ensures came { Rests (N.came net.old) (N.came net.new) }
         ensures gone { Rests (N.gone net.old) (N.gone net.new) }
         ensures free { StaysBut id (N.is_free net.old) (N.is_free net.new) }
+        ensures call { (a : Accepted) × N.made net.new (Accepts id a) }
+        ensures awaits { (self.new.is_awaited ≡ self.old.is_awaited)
+            ⊎ N.made net.new (Accepts id Accepted.Nobody) }
+        ensures rests { self.old.rests ≡ true → self.new.rests ≡ true }
+        ensures calls { Recalls (N.made net.old) (N.made net.new) }
         ensures refused { result ≡ false → N.is_free net.new id }
         ensures most { self.new.most ≡ self.old.most }
     {

@@ -2,7 +2,7 @@
 
 ghost use Rattle.std.specs.Prelude.{◌≡◌, ◌∷◌, ℕ, [], Contains, None};
 ghost use Rattle.std.specs.FinMap as map;
-ghost use Rattle.doc_server_network.specs.Networks.{Stays};
+ghost use Rattle.doc_server_network.specs.Networks.{Recalls, Stays};
 ghost use Rattle.doc_server_network.specs.Saved.{IsReady, StaysSaved};
 ghost use Rattle.doc_server_serving.specs.Hearing.{WaitOn};
 ghost use Rattle.doc_server_serving.specs.Sites.{IsSameSite};
@@ -30,6 +30,7 @@ pub fn let_go<N: Network, D: Device, R: Renderer + Drop>(
     ensures woken { AreWoken (N.wakes net.old) peers.old → AreWoken (N.wakes net.new) peers.new }
     ensures ended { Stays (N.has_ended net.old) (N.has_ended net.new) }
     ensures free { Stays (N.is_free net.old) (N.is_free net.new) }
+    ensures calls { Recalls (N.made net.old) (N.made net.new) }
     ensures same { R.page saved.new.hub.0 ≡ R.page saved.old.hub.0 }
     ensures site { IsSameSite saved.old.hub.1 saved.new.hub.1 }
     ensures saved { StaysSaved D.seen D.may_leave D.failed D.stale saved.old saved.new }
@@ -58,6 +59,7 @@ fn let_one_go<N: Network, D: Device, R: Renderer + Drop>(
     ensures woken { AreWoken (N.wakes net.old) peers.old → AreWoken (N.wakes net.new) peers.new }
     ensures ended { Stays (N.has_ended net.old) (N.has_ended net.new) }
     ensures free { Stays (N.is_free net.old) (N.is_free net.new) }
+    ensures calls { Recalls (N.made net.old) (N.made net.new) }
     ensures same { R.page saved.new.hub.0 ≡ R.page saved.old.hub.0 }
     ensures site { IsSameSite saved.old.hub.1 saved.new.hub.1 }
     ensures saved { StaysSaved D.seen D.may_leave D.failed D.stale saved.old saved.new }

@@ -3,7 +3,7 @@
 ghost use Rattle.std.specs.Prelude.{◌≡◌, ◌∷◌, ◌++◌, ℕ, [], false, length, is_some, true, Contains, OnErr, OnOk};
 ghost use Rattle.std.specs.FinMap as map;
 ghost use Rattle.std.specs.List.{list_any};
-ghost use Rattle.doc_server_network.specs.Networks.{Rests, Stays};
+ghost use Rattle.doc_server_network.specs.Networks.{Recalls, Rests, Stays};
 ghost use Rattle.doc_server_network.specs.Saved.{IsReady, StaysSaved};
 ghost use Rattle.doc_server_serving.specs.Hearing.{HearsAll, SparesAll};
 ghost use Rattle.doc_server_serving.specs.Parts.{is_over_at, numbers_of, takes_part, takes_part_at, turn_of};
@@ -114,6 +114,7 @@ impl Peers {
         ensures woken { AreWoken (N.wakes net.old) self.old → AreWoken (N.wakes net.new) self.new }
         ensures ended { Stays (N.has_ended net.old) (N.has_ended net.new) }
         ensures free { Stays (N.is_free net.old) (N.is_free net.new) }
+        ensures calls { Recalls (N.made net.old) (N.made net.new) }
     {
         'numbers: for id in ready {
             self.send_at(*id, net, permit);
@@ -129,6 +130,7 @@ impl Peers {
         ensures woken { AreWoken (N.wakes net.old) self.old → AreWoken (N.wakes net.new) self.new }
         ensures ended { Stays (N.has_ended net.old) (N.has_ended net.new) }
         ensures free { Stays (N.is_free net.old) (N.is_free net.new) }
+        ensures calls { Recalls (N.made net.old) (N.made net.new) }
     {
         let Some(client) = self.clients.get_mut(&id) else {
             return;
@@ -154,6 +156,7 @@ impl Peers {
         ensures woken { AreWoken (N.wakes net.old) self.old → AreWoken (N.wakes net.new) self.new }
         ensures ended { Stays (N.has_ended net.old) (N.has_ended net.new) }
         ensures free { Stays (N.is_free net.old) (N.is_free net.new) }
+        ensures calls { Recalls (N.made net.old) (N.made net.new) }
         ensures same { R.page saved.new.hub.0 ≡ R.page saved.old.hub.0 }
         ensures saved { StaysSaved D.seen D.may_leave D.failed D.stale saved.old saved.new }
         ensures ready { IsReady D.seen D.may_leave D.failed D.stale saved.old
@@ -183,6 +186,7 @@ impl Peers {
         ensures woken { AreWoken (N.wakes net.old) self.old → AreWoken (N.wakes net.new) self.new }
         ensures ended { Stays (N.has_ended net.old) (N.has_ended net.new) }
         ensures free { Stays (N.is_free net.old) (N.is_free net.new) }
+        ensures calls { Recalls (N.made net.old) (N.made net.new) }
         ensures same { R.page saved.new.hub.0 ≡ R.page saved.old.hub.0 }
         ensures saved { StaysSaved D.seen D.may_leave D.failed D.stale saved.old saved.new }
         ensures ready { IsReady D.seen D.may_leave D.failed D.stale saved.old
@@ -206,6 +210,7 @@ impl Peers {
         ensures woken { AreWoken (N.wakes net.old) self.old → AreWoken (N.wakes net.new) self.new }
         ensures ended { Stays (N.has_ended net.old) (N.has_ended net.new) }
         ensures free { Stays (N.is_free net.old) (N.is_free net.new) }
+        ensures calls { Recalls (N.made net.old) (N.made net.new) }
         ensures room { length piece.new ≡ length piece.old }
     {
         'numbers: for id in ready {
@@ -222,6 +227,7 @@ impl Peers {
         ensures woken { AreWoken (N.wakes net.old) self.old → AreWoken (N.wakes net.new) self.new }
         ensures ended { Stays (N.has_ended net.old) (N.has_ended net.new) }
         ensures free { Stays (N.is_free net.old) (N.is_free net.new) }
+        ensures calls { Recalls (N.made net.old) (N.made net.new) }
         ensures room { length piece.new ≡ length piece.old }
     {
         let Some(client) = self.clients.get_mut(&id) else {

@@ -1,7 +1,7 @@
 //! Handing replies over to a connection that may take a part of them.
 
 ghost use Rattle.std.specs.Prelude.{◌≡◌, ◌≤◌, [], length, drop, true, false, IfOk, OnErr};
-ghost use Rattle.doc_server_network.specs.Networks.{Rests, RestsBut, Stays, StaysBut};
+ghost use Rattle.doc_server_network.specs.Networks.{Recalls, Rests, RestsBut, Stays, StaysBut};
 ghost use Rattle.doc_server_serving.specs.Replies.{Starts, left_of};
 ghost use Rattle.doc_server_serving.specs.Wirings.{HandsOver};
 
@@ -35,6 +35,7 @@ pub fn send_replies<N: Network>(
     ensures fails { OnErr result (N.has_ended net.new id) }
     ensures ended { Stays (N.has_ended net.old) (N.has_ended net.new) }
     ensures free { Stays (N.is_free net.old) (N.is_free net.new) }
+    ensures calls { Recalls (N.made net.old) (N.made net.new) }
 {
     'replies: while let Some(reply) = replies.front() {
         if !send_reply(id, net, permit, reply.get(), sent)? {
@@ -65,6 +66,7 @@ fn send_reply<N: Network>(
     ensures fails { OnErr result (N.has_ended net.new id) }
     ensures ended { Stays (N.has_ended net.old) (N.has_ended net.new) }
     ensures free { Stays (N.is_free net.old) (N.is_free net.new) }
+    ensures calls { Recalls (N.made net.old) (N.made net.new) }
 {
     'writes: while *sent < bytes.len() {
         let count = net.write(permit, id, &bytes[*sent..])?;

@@ -1,12 +1,14 @@
 //! The loop over a network.
 
-ghost use Rattle.std.specs.Prelude.{◌≡◌, ◌≤◌, ◌⊎◌, ℕ, false, true, IfErr, IfOk, OnOk, if◌then◌else◌};
+ghost use Rattle.std.specs.Prelude.{◌≡◌, ◌≤◌, ℕ, false, true, IfErr, IfOk, OnOk, if◌then◌else◌};
 ghost use Rattle.std.specs.FinMap as map;
 ghost use Rattle.std.specs.List.{list_any};
 ghost use Rattle.doc_hub.specs.Worlds.{World};
 ghost use Rattle.doc_server_network.specs.Crashes.{CrashesLeave, Restores, RestoresEither};
+ghost use Rattle.doc_server_network.specs.Networks.{Recalls, WasAsked, WasWaitedFor, end_of_input};
 ghost use Rattle.doc_server_network.specs.Saved.{IsAllSaved, IsReady, IsSaved, IsSettled, StaysSaved};
 ghost use Rattle.doc_server_serving.specs.Crashing.{AreKnown, RestoresFront};
+ghost use Rattle.doc_server_serving.specs.Doors.{is_open};
 ghost use Rattle.doc_server_serving.specs.Hearing.{HeardAt, IsMinded, WaitOn};
 ghost use Rattle.doc_server_serving.specs.Invariants.{AreFree, GoesOn, HasServedNobody, IsServed};
 ghost use Rattle.doc_server_serving.specs.Leading.{Leads, LeadsQuietly};
@@ -72,26 +74,8 @@ pub struct Server {
 }
 
 impl Server {
-    /// A server without clients, of which it has so many at most at once.
-    pub fn new<C: Clock>(
-        rt: &C,
-        heap: Heap,
-        connections: usize,
-        limits: Limits,
-    ) -> Result<Server, ServeFault>
-        ensures empty { IfOk result (λ server. server.peers ≡ map.empty) }
-        ensures most { IfOk result (λ server. server.door.most ≡ connections) }
-        ensures why { IfErr result (λ fault. (fault ≡ faults.Socket) ⊎ (fault ≡ faults.Memory)) }
-    {
-        let Ok(now) = Instant::now(rt) else {
-            return Err(ServeFault::Socket);
-        };
-        let server = Server::begun(now, heap, connections, limits)?;
-        Ok(server)
-    }
-
-    /// Such a server, which begins at this time. Nothing but memory can be lacking for it.
-    pub fn begun(
+    /// A server without clients, which begins at this time and has so many of them at most at once.
+    pub fn new(
         now: Instant,
         heap: Heap,
         connections: usize,
@@ -123,7 +107,8 @@ impl Server {
         Ok(server)
     }
 
-    /// Serves until standard input ends, where the network tells of that. The journal gets its room first.
+    /// Serves until standard input ends, where the network tells of that. The journal gets its room first. Behind 2^64 - 1 turns it ends as
+    /// where the network can't be waited for.
     pub fn serve<N: Network, D: Device + NamedFile, R: Renderer + Drop, C: Clock>(
         &mut self,
         rt: &C,
@@ -138,6 +123,8 @@ impl Server {
             × IsServed s.run (N.came net.new) (N.gone net.new) }
         ensures woken { AreWoken (N.wakes net.new) self.new.peers }
         ensures bound { map.len self.new.peers ≤ self.old.door.most }
+        ensures ends { OnOk result (N.made net.new end_of_input) }
+        ensures why { IfErr result (λ fault. fault ≡ faults.Socket → WasWaitedFor (N.made net.new)) }
         ensures all { OnOk result (IsAllSaved saved.new) }
         ensures ready { OnOk result (IsReady D.seen D.may_leave D.failed D.stale saved.new) }
         ensures settled { (config : StoreState)
@@ -157,7 +144,7 @@ impl Server {
                 return Ok(());
             }
         }
-        Ok(())
+        Err(ServeFault::Socket)
     }
 
     /// One turn. True: standard input has ended, and nobody is accepted any more.
@@ -179,6 +166,11 @@ impl Server {
             × ((k : ℕ) → IsMinded k s.leads.run
             (map.get self.old.peers k) (map.get self.new.peers k))) }
         ensures most { self.new.door.most ≡ self.old.door.most }
+        ensures waits { WasWaitedFor (N.made net.new) }
+        ensures ends { IfOk result (λ has_ended. has_ended ≡ true → N.made net.new end_of_input) }
+        ensures asked { IfOk result (λ has_ended. has_ended ≡ false
+            → is_open self.new.door (map.len self.new.peers) ≡ true
+            → WasAsked saved.old.hub.1.given (N.made net.new)) }
         ensures all { OnOk result (IsAllSaved saved.new) }
         ensures ready { OnOk result (IsReady D.seen D.may_leave D.failed D.stale saved.new) }
         ensures settled { (config : StoreState)
@@ -191,9 +183,7 @@ impl Server {
             saved.old.journal saved.new.journal }
     {
         net.wait(self.longest_wait())?;
-        let Ok(now) = Instant::now(rt) else {
-            return Err(ServeFault::Socket);
-        };
+        let now = time_of(rt, self.swept);
         look(self.heap, &mut self.looked, saved, now)?;
         let news = wake_told(&mut self.peers, net);
         self.door.hear(&news);
@@ -236,6 +226,7 @@ impl Server {
             × ((k : ℕ) → HeardAt k s.leads.run
             (map.get self.old.peers k) (map.get self.new.peers k))) }
         ensures waits { WaitOn self.old.peers self.new.peers }
+        ensures calls { Recalls (N.made net.old) (N.made net.new) }
         ensures fewer { map.len self.new.peers ≤ map.len self.old.peers }
         ensures most { self.new.door.most ≡ self.old.door.most }
         ensures all { OnOk result (IsAllSaved saved.new) }
@@ -284,6 +275,9 @@ impl Server {
         ensures goes { GoesOn R.page N.came N.gone N.wakes N.is_free saved.old.hub saved.new.hub
             net.old net.new self.old.peers self.new.peers }
         ensures waits { WaitOn self.old.peers self.new.peers }
+        ensures calls { Recalls (N.made net.old) (N.made net.new) }
+        ensures asked { OnOk result (is_open self.new.door (map.len self.new.peers) ≡ true
+            → WasAsked saved.old.hub.1.given (N.made net.new)) }
         ensures bound { map.len self.old.peers ≤ self.old.door.most
             → map.len self.new.peers ≤ self.old.door.most }
         ensures most { self.new.door.most ≡ self.old.door.most }
@@ -310,6 +304,7 @@ impl Server {
         ensures goes { GoesOn R.page N.came N.gone N.wakes N.is_free saved.old.hub saved.new.hub
             net.old net.new self.old.peers self.new.peers }
         ensures waits { WaitOn self.old.peers self.new.peers }
+        ensures calls { Recalls (N.made net.old) (N.made net.new) }
         ensures fewer { map.len self.new.peers ≤ map.len self.old.peers }
         ensures most { self.new.door.most ≡ self.old.door.most }
         ensures site { IsSameSite saved.old.hub.1 saved.new.hub.1 }
@@ -348,6 +343,14 @@ impl Server {
             .sweep(self.numbers.as_slice(), &self.limits, is_crowded);
         self.goes_on = self.goes_on || self.peers.goes_on(self.numbers.as_slice());
         Ok(true)
+    }
+}
+
+/// The time; where the clock can't be asked, this one, so that no time has passed.
+fn time_of<C: Clock>(rt: &C, last: Instant) -> Instant {
+    match Instant::now(rt) {
+        Ok(now) => now,
+        Err(_) => last,
     }
 }
 

@@ -6,7 +6,7 @@ ghost use Rattle.doc_hub.specs.Worlds.{disconnected};
 ghost use Rattle.doc_hub_events.specs.Events.{disconnect_on};
 ghost use Rattle.doc_server_listen.specs.Costs.{CostsAtMost, IsWithin, next_cost};
 ghost use Rattle.doc_server_listen.specs.Edits.{AreQuiet};
-ghost use Rattle.doc_server_network.specs.Networks.{Rests, RestsBut, Stays, StaysBut};
+ghost use Rattle.doc_server_network.specs.Networks.{Recalls, Rests, RestsBut, Stays, StaysBut};
 ghost use Rattle.doc_server_network.specs.Saved.{IsReady, StaysSaved, may_step};
 ghost use Rattle.doc_server_serving.specs.Hearing.{Hears, IsReader, WasHeard};
 ghost use Rattle.doc_server_serving.specs.Replies.{most_pending};
@@ -53,6 +53,7 @@ impl Client {
         ensures wakes { StaysBut id (N.wakes net.old) (N.wakes net.new) }
         ensures ended { Stays (N.has_ended net.old) (N.has_ended net.new) }
         ensures free { Stays (N.is_free net.old) (N.is_free net.new) }
+        ensures calls { Recalls (N.made net.old) (N.made net.new) }
         ensures same { R.page saved.new.hub.0 ≡ R.page saved.old.hub.0 }
         ensures saved { StaysSaved D.seen D.may_leave D.failed D.stale saved.old saved.new }
         ensures ready { IsReady D.seen D.may_leave D.failed D.stale saved.old
@@ -108,6 +109,7 @@ impl Client {
         ensures wakes { StaysBut id (N.wakes net.old) (N.wakes net.new) }
         ensures ended { Stays (N.has_ended net.old) (N.has_ended net.new) }
         ensures free { Stays (N.is_free net.old) (N.is_free net.new) }
+        ensures calls { Recalls (N.made net.old) (N.made net.new) }
         ensures same { R.page saved.new.hub.0 ≡ R.page saved.old.hub.0 }
         ensures saved { StaysSaved D.seen D.may_leave D.failed D.stale saved.old saved.new }
         ensures ready { IsReady D.seen D.may_leave D.failed D.stale saved.old

@@ -1,7 +1,8 @@
 //! What a network tells of, and the clients that it wakes.
 
-ghost use Rattle.std.specs.Prelude.{◌≡◌, ◌<◌, ◌-◌, ◌^◌, false};
-ghost use Rattle.doc_server_network.specs.Networks.{Rests, Stays};
+ghost use Rattle.doc_server_serving.specs.Tellings.{IsNews};
+ghost use Rattle.std.specs.Prelude.{◌≡◌, ◌<◌, ◌-◌, ◌^◌, ◌||◌, false};
+ghost use Rattle.doc_server_network.specs.Networks.{Recalls, Rests, Stays};
 ghost use Rattle.doc_server_serving.specs.Hearing.{RouseAll};
 ghost use Rattle.doc_server_serving.specs.Wirings.{AreWoken, Gives};
 
@@ -24,7 +25,9 @@ pub struct News {
 
 impl News {
     /// A peer may be gone.
-    fn hear_loss(&mut self, is_gone: bool) {
+    fn hear_loss(&mut self, is_gone: bool)
+        ensures { self.new ≡ record self.old { is_lost = self.old.is_lost || is_gone } }
+    {
         self.is_lost = self.is_lost || is_gone;
     }
 }
@@ -32,6 +35,7 @@ impl News {
 /// Wakes the clients that the network tells of, until it has told all.
 pub fn wake_told<N: Network>(peers: &mut Peers, net: &mut N) -> News
     ensures all { result.count < 2 ^ 64 - 1 → N.told_all net.new }
+    ensures news { IsNews result (N.made net.new) }
     ensures gives { Gives (N.gone net.old) (N.gone net.new) (N.has_ended net.new) peers.old peers.new }
     ensures rouses { RouseAll peers.old peers.new }
     ensures came { Rests (N.came net.old) (N.came net.new) }
@@ -39,6 +43,7 @@ pub fn wake_told<N: Network>(peers: &mut Peers, net: &mut N) -> News
     ensures woken { AreWoken (N.wakes net.old) peers.old → AreWoken (N.wakes net.new) peers.new }
     ensures ended { Stays (N.has_ended net.old) (N.has_ended net.new) }
     ensures free { Stays (N.is_free net.old) (N.is_free net.new) }
+    ensures calls { Recalls (N.made net.old) (N.made net.new) }
 {
     let mut news = News {
         is_knocked: false,
@@ -59,6 +64,7 @@ pub fn wake_told<N: Network>(peers: &mut Peers, net: &mut N) -> News
 /// Wakes the client that the network tells of next, or notes what else it tells. False: it has told all.
 fn wake_one<N: Network>(peers: &mut Peers, net: &mut N, news: &mut News) -> bool
     ensures all { result ≡ false → N.told_all net.new }
+    ensures news { IsNews news.old (N.made net.old) → IsNews news.new (N.made net.new) }
     ensures gives { Gives (N.gone net.old) (N.gone net.new) (N.has_ended net.new) peers.old peers.new }
     ensures rouses { RouseAll peers.old peers.new }
     ensures came { Rests (N.came net.old) (N.came net.new) }
@@ -66,6 +72,7 @@ fn wake_one<N: Network>(peers: &mut Peers, net: &mut N, news: &mut News) -> bool
     ensures woken { AreWoken (N.wakes net.old) peers.old → AreWoken (N.wakes net.new) peers.new }
     ensures ended { Stays (N.has_ended net.old) (N.has_ended net.new) }
     ensures free { Stays (N.is_free net.old) (N.is_free net.new) }
+    ensures calls { Recalls (N.made net.old) (N.made net.new) }
 {
     match net.told() {
         None => false,

@@ -3,7 +3,7 @@
 ghost use Rattle.std.specs.Prelude.{◌≡◌, ℕ, length, Contains, OnErr, OnOk};
 ghost use Rattle.std.specs.FinMap as map;
 ghost use Rattle.doc_hub.specs.Worlds.{World};
-ghost use Rattle.doc_server_network.specs.Networks.{Rests, Stays};
+ghost use Rattle.doc_server_network.specs.Networks.{Recalls, Rests, Stays};
 ghost use Rattle.doc_server_network.specs.Crashes.{CrashesLeave, RestoresEither};
 ghost use Rattle.doc_server_network.specs.Saved.{IsAllSaved, IsReady, IsSaved, IsSettled};
 ghost use Rattle.doc_server_serving.specs.Hearing.{HeardAt, SparesAll, WaitOn};
@@ -57,6 +57,7 @@ pub fn turn<N: Network, D: Device, R: Renderer + Drop>(
     ensures woken { AreWoken (N.wakes net.old) peers.old → AreWoken (N.wakes net.new) peers.new }
     ensures ended { Stays (N.has_ended net.old) (N.has_ended net.new) }
     ensures free { Stays (N.is_free net.old) (N.is_free net.new) }
+    ensures calls { Recalls (N.made net.old) (N.made net.new) }
     ensures same { R.page saved.new.hub.0 ≡ R.page saved.old.hub.0 }
     ensures room { length piece.new ≡ length piece.old }
 {
@@ -83,6 +84,7 @@ fn send_settled<N: Network, D: Device, R: Renderer + Drop>(
     ensures woken { AreWoken (N.wakes net.old) peers.old → AreWoken (N.wakes net.new) peers.new }
     ensures ended { Stays (N.has_ended net.old) (N.has_ended net.new) }
     ensures free { Stays (N.is_free net.old) (N.is_free net.new) }
+    ensures calls { Recalls (N.made net.old) (N.made net.new) }
 {
     let permit = saved.permit();
     peers.send_all(ready, net, &permit);

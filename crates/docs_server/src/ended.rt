@@ -5,12 +5,13 @@ use doc_page::renderer::Renderer;
 use doc_server_hosting::ended::Ended;
 use doc_server_journal::device::Device;
 use doc_server_network::network::Network;
+use doc_server_network::watch::Watch;
 use doc_server_serving::fault::ServeFault;
 use doc_server_serving::named_file::NamedFile;
 
 /// The status to end with, where the server was told to stop. Where it can't write and its journal isn't found under its name, that is why.
-pub fn ended_status<D: Device + NamedFile, N: Network, R: Renderer + Drop>(
-    ended: &Ended<D, N, R>,
+pub fn ended_status<D: Device + NamedFile, N: Network, R: Renderer + Drop, W: Watch>(
+    ended: &Ended<D, N, R, W>,
 ) -> Result<u8, ListenFault> {
     match ended.served {
         Ok(()) => Ok(0),
@@ -20,7 +21,9 @@ pub fn ended_status<D: Device + NamedFile, N: Network, R: Renderer + Drop>(
 }
 
 /// Whether the journal is found under its name, where there is one.
-fn is_found<D: Device + NamedFile, N: Network, R: Renderer + Drop>(ended: &Ended<D, N, R>) -> bool {
+fn is_found<D: Device + NamedFile, N: Network, R: Renderer + Drop, W: Watch>(
+    ended: &Ended<D, N, R, W>,
+) -> bool {
     match ended.saved.device() {
         Some(device) => device.is_found(),
         None => true,

@@ -105,14 +105,14 @@ fn listen_with<
 }
 
 /// Serves a hub that has the pages of the configuration, on a host, with the journal that the arguments name, if they do.
-fn listen_on<H: Host, R: Renderer + Drop, P: Clock + Eprint>(
-    rt: &P,
+fn listen_on<'a, H: Host, R: Renderer + Drop, P: Clock + Eprint>(
+    rt: &'a P,
     heap: Heap,
     host: &H,
     hub: Hub<R>,
     bounds: &Bounds,
     command: &Listen<'_>,
-) -> Result<Ended<H::Device, H::Network, R>, HostingFault<H::Fault>>
+) -> Result<Ended<H::Device, H::Network, R, AccessLog<'a, P>>, HostingFault<H::Fault>>
     ensures hosted { IfOk result (λ ended. IsHosted H.Device.seen H.Device.may_leave
         H.Device.failed H.Device.stale H.Device.moment H.Device.left_since (R.page hub.0)
         (H.file host.now) (option_copied command.now.journal) hub.1 ended.saved

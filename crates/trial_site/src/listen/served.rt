@@ -28,6 +28,7 @@ use doc_server_settling::reserve::{RESERVE, SPARE};
 use std::marker::Model;
 use std::net::{Ipv4Addr, Net, SocketAddr};
 use std::rt::Clock;
+use std::time::Instant;
 
 /// How many connections a server has at most, after how many seconds of silence each of them ends, how many calls of its journal's device
 /// go well, and up to how many bytes that is grown.
@@ -82,7 +83,8 @@ impl<R: Renderer + Drop> Served<R> {
         let saved = saved_of(heap, hub, bounds, file)?;
         let address = SocketAddr::from((Ipv4Addr::LOCALHOST, 0));
         let net = MioNetwork::bind(rt, heap, address, false).ok()?;
-        let server = Server::new(rt, heap, bounds.connections, idle(bounds.idle_seconds)).ok()?;
+        let now = Instant::now(rt).ok()?;
+        let server = Server::new(now, heap, bounds.connections, idle(bounds.idle_seconds)).ok()?;
         Some(Served {
             server,
             net,

@@ -35,6 +35,7 @@ use doc_server_serving::fault::ServeFault;
 use doc_server_serving::named_file::NamedFile;
 use doc_server_serving::server::Server;
 use std::rt::Clock;
+use std::time::Instant;
 use trial::answer::{no_call, number_and_text};
 
 /// What a server is asked to do.
@@ -169,7 +170,7 @@ fn play<R: Renderer + Drop, P: Clock>(
     let ended = serve(rt, heap, asked, saved, &mut watched);
     Played {
         ended,
-        net: watched.into_network(),
+        net: watched.into_parts().0,
     }
 }
 
@@ -186,7 +187,10 @@ fn serve<N: Network, D: Device + NamedFile, R: Renderer + Drop, P: Clock>(
     requires new { (k : ℕ) → IsNew (N.came net.old k) (N.gone net.old k) [] [] None }
     requires free { (k : ℕ) → N.is_free net.old k }
 {
-    let mut server = Server::new(rt, heap, asked.connections, idle(asked.idle_seconds))?;
+    let Ok(now) = Instant::now(rt) else {
+        return Err(ServeFault::Socket);
+    };
+    let mut server = Server::new(now, heap, asked.connections, idle(asked.idle_seconds))?;
     let ended = server.serve(rt, net, saved);
     drop(server);
     ended

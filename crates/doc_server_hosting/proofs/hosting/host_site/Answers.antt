@@ -4,6 +4,7 @@ use Rattle.std.specs.FinMap as map
 use Rattle.doc_server_hosting.specs.Hostings.{IsHosted}
 use Rattle.doc_server_hosting.specs.Hosts.{IsUnused}
 use Rattle.doc_server_hosting.proofs.Hosted.{hosted, nobody}
+use Rattle.doc_server_network.specs.Networks.{end_of_input}
 use Rattle.doc_server_network.specs.Saved.{IsSettled}
 use Rattle.doc_server_serving.specs.Wirings.{AreWoken}
 use Rattle.doc_server_hosting.proofs.hosting.host_site.Goals as goal
@@ -14,7 +15,7 @@ serve-requires-clause-new g c =
     nobody c.in_ok-saved.saved.hub.1.given (g.H.Network.Network.came net) (g.H.Network.Network.gone net) (g.H.Network.Network.is_free net)
     c.in_ok-server.server.peers
     (subst (λ n. (k : ℕ) → IsUnused (g.H.Network.Network.came n k) (g.H.Network.Network.gone n k) (g.H.Network.Network.is_free n k))
-    (sym c.new-in-Some.ensures) c.in_ok-net.ensures) c.in_ok-server.ensures.empty
+    (sym c.new-in-Some.ensures.net) c.in_ok-net.ensures) c.in_ok-server.ensures.empty
 
 pub serve-requires-in-None-clause-new : goal.serve-requires-in-None-clause-new
 serve-requires-in-None-clause-new g c =
@@ -70,3 +71,9 @@ pub returns-in-Some-clause-bound : goal.returns-in-Some-clause-bound
 returns-in-Some-clause-bound g c =
     subst (λ server. map.len server.peers ≤ c.args.terms.now.connections) (sym c.unwatched.ensures.server)
     (subst (λ most. map.len c.serve.result.server.peers ≤ most) c.in_ok-server.ensures.most c.serve.ensures.bound)
+
+pub returns-in-Some-clause-ends : goal.returns-in-Some-clause-ends
+returns-in-Some-clause-ends g c =
+    subst (λ net. OnOk c.unwatched.result.served (g.H.Network.Network.made net end_of_input)) (sym c.unwatched.ensures.net)
+    (subst (λ served. OnOk served (g.H.Network.Network.made c.serve.result.net.net end_of_input)) (sym c.unwatched.ensures.served)
+    c.serve.ensures.ends)

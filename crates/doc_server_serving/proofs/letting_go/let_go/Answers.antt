@@ -18,6 +18,7 @@ numbers-init g c = record {
   woken = λ w. w;
   ended = λ k e. e;
   free = λ k f. f;
+  calls = λ k f. f;
   same = refl;
   site = same_site c.args.saved.now.hub.1;
   saved = λ config begin is. is;
@@ -46,6 +47,7 @@ numbers-preserved g c =
       woken = λ w. c.let_one_go.ensures.woken (c.numbers.invariant.woken w);
       ended = λ k e. c.let_one_go.ensures.ended k (c.numbers.invariant.ended k e);
       free = λ k f. c.let_one_go.ensures.free k (c.numbers.invariant.free k f);
+      calls = λ k f. c.let_one_go.ensures.calls k (c.numbers.invariant.calls k f);
       same = c.let_one_go.ensures.same ∙ c.numbers.invariant.same;
       site = same_join c.args.saved.now.hub.1 c.numbers.saved.hub.1 c.let_one_go.new.saved.hub.1 c.numbers.invariant.site
           c.let_one_go.ensures.site;

@@ -1,7 +1,7 @@
 use Rattle.std.proofs.Common.{◌≡◌, ℕ, take}
 use Rattle.std.specs.Prelude.{Contains, None}
 use Rattle.std.specs.FinMap as map
-use Rattle.doc_server_network.specs.Networks.{Stays}
+use Rattle.doc_server_network.specs.Networks.{Recalls, Stays}
 use Rattle.doc_server_network.specs.Saved.{IsReady, StaysSaved}
 use Rattle.doc_server_serving.specs.Hearing.{WaitOn}
 use Rattle.doc_server_serving.specs.Sites.{IsSameSite}
@@ -18,6 +18,7 @@ invariant-numbers g l = record {
   woken : AreWoken (g.N.Network.wakes l.fn.net) l.fn.peers → AreWoken (g.N.Network.wakes l.net) l.peers;
   ended : Stays (g.N.Network.has_ended l.fn.net) (g.N.Network.has_ended l.net);
   free : Stays (g.N.Network.is_free l.fn.net) (g.N.Network.is_free l.net);
+  calls : Recalls (g.N.Network.made l.fn.net) (g.N.Network.made l.net);
   same : g.R.Renderer.page l.saved.hub.0 ≡ g.R.Renderer.page l.fn.saved.hub.0;
   site : IsSameSite l.fn.saved.hub.1 l.saved.hub.1;
   saved : StaysSaved g.D.Device.seen g.D.Device.may_leave g.D.Device.failed g.D.Device.stale l.fn.saved l.saved;

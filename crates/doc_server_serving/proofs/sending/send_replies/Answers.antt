@@ -40,4 +40,5 @@ replies-preserved g c =
       wakes = λ k off w. c.in_ok-send_reply.ensures.wakes k off (c.replies.invariant.wakes k off w);
       ended = λ k e. c.in_ok-send_reply.ensures.ended k (c.replies.invariant.ended k e);
       free = λ k f. c.in_ok-send_reply.ensures.free k (c.replies.invariant.free k f);
+      calls = λ k f. c.in_ok-send_reply.ensures.calls k (c.replies.invariant.calls k f);
     }

@@ -1,5 +1,5 @@
 use Rattle.std.proofs.Common.{length}
-use Rattle.doc_server_network.specs.Networks.{Rests, RestsBut, Stays, StaysBut}
+use Rattle.doc_server_network.specs.Networks.{Recalls, Rests, RestsBut, Stays, StaysBut}
 use Rattle.doc_server_serving.specs.Replies.{Starts, left_of}
 use Rattle.doc_server_serving.specs.Wirings.{HandsOver}
 use Rattle.doc_server_serving.proofs.sending.send_replies.Given as goal
@@ -14,6 +14,7 @@ invariant-replies g l = record {
   wakes : StaysBut l.id (g.N.Network.wakes l.fn.net) (g.N.Network.wakes l.net);
   ended : Stays (g.N.Network.has_ended l.fn.net) (g.N.Network.has_ended l.net);
   free : Stays (g.N.Network.is_free l.fn.net) (g.N.Network.is_free l.net);
+  calls : Recalls (g.N.Network.made l.fn.net) (g.N.Network.made l.net);
 }
 
 abbrev pub decreases-replies : goal.decreases-replies

@@ -17,4 +17,5 @@ writes-preserved g c =
       wakes = λ k off w. c.in_ok-count.ensures.wakes k off (c.writes.invariant.wakes k off w);
       ended = λ k e. c.in_ok-count.ensures.ended k (c.writes.invariant.ended k e);
       free = λ k f. c.in_ok-count.ensures.free k (c.writes.invariant.free k f);
+      calls = λ k f. c.in_ok-count.ensures.calls k (c.writes.invariant.calls k f);
     }

@@ -1,5 +1,5 @@
 use Rattle.std.proofs.Common.{◌-◌, length, drop}
-use Rattle.doc_server_network.specs.Networks.{Rests, RestsBut, Stays, StaysBut}
+use Rattle.doc_server_network.specs.Networks.{Recalls, Rests, RestsBut, Stays, StaysBut}
 use Rattle.doc_server_serving.specs.Wirings.{HandsOver}
 use Rattle.doc_server_serving.proofs.sending.send_reply.Given as goal
 
@@ -11,6 +11,7 @@ invariant-writes g l = record {
   wakes : StaysBut l.id (g.N.Network.wakes l.fn.net) (g.N.Network.wakes l.net);
   ended : Stays (g.N.Network.has_ended l.fn.net) (g.N.Network.has_ended l.net);
   free : Stays (g.N.Network.is_free l.fn.net) (g.N.Network.is_free l.net);
+  calls : Recalls (g.N.Network.made l.fn.net) (g.N.Network.made l.net);
 }
 
 abbrev pub decreases-writes : goal.decreases-writes

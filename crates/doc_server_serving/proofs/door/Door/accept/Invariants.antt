@@ -1,5 +1,7 @@
 use Rattle.std.proofs.Common.{◌≡◌, ◌≤◌}
+use Rattle.std.specs.Prelude.{◌⊎◌, true}
 use Rattle.std.specs.FinMap as map
+use Rattle.doc_server_network.specs.Networks.{HasNobody, Recalls, WasAsked}
 use Rattle.doc_server_network.specs.Saved.{IsReady, StaysSaved}
 use Rattle.doc_server_serving.specs.Hearing.{WaitOn}
 use Rattle.doc_server_serving.specs.Invariants.{GoesOn}
@@ -13,6 +15,10 @@ invariant-accepts g l = record {
   waits : WaitOn l.fn.peers l.peers;
   bound : map.len l.fn.peers ≤ l.fn.self.most → map.len l.peers ≤ l.fn.self.most;
   most : l.self.most ≡ l.fn.self.most;
+  asked : (l.counter ≡ 0) ⊎ ((l.self.rests ≡ true) ⊎ WasAsked l.fn.saved.hub.1.given (g.N.Network.made l.net));
+  awaits : (l.self.is_awaited ≡ l.fn.self.is_awaited) ⊎ HasNobody l.fn.saved.hub.1.given (g.N.Network.made l.net);
+  rests : l.fn.self.rests ≡ true → l.self.rests ≡ true;
+  calls : Recalls (g.N.Network.made l.fn.net) (g.N.Network.made l.net);
   site : IsSameSite l.fn.saved.hub.1 l.saved.hub.1;
   saved : StaysSaved g.D.Device.seen g.D.Device.may_leave g.D.Device.failed g.D.Device.stale l.fn.saved l.saved;
   ready : IsReady g.D.Device.seen g.D.Device.may_leave g.D.Device.failed g.D.Device.stale l.fn.saved

@@ -17,6 +17,7 @@ numbers-init g c = record {
   woken = λ w. w;
   ended = λ k e. e;
   free = λ k f. f;
+  calls = λ k f. f;
   room = refl;
 }
 
@@ -34,6 +35,7 @@ numbers-preserved g c = record {
   woken = λ w. c.finish_at.ensures.woken (c.numbers.invariant.woken w);
   ended = λ k e. c.finish_at.ensures.ended k (c.numbers.invariant.ended k e);
   free = λ k f. c.finish_at.ensures.free k (c.numbers.invariant.free k f);
+  calls = λ k f. c.finish_at.ensures.calls k (c.numbers.invariant.calls k f);
   room = c.finish_at.ensures.room ∙ c.numbers.invariant.room;
 }
 

@@ -1,5 +1,5 @@
 use Rattle.std.proofs.Common.{◌≡◌, length, take}
-use Rattle.doc_server_network.specs.Networks.{Rests, Stays}
+use Rattle.doc_server_network.specs.Networks.{Recalls, Rests, Stays}
 use Rattle.doc_server_serving.specs.Hearing.{SparesAll}
 use Rattle.doc_server_serving.specs.Wirings.{AreWoken, EndAll, LingerAll}
 use Rattle.doc_server_serving.proofs.peers.Peers.finish_all.Given as goal
@@ -13,5 +13,6 @@ invariant-numbers g l = record {
   woken : AreWoken (g.N.Network.wakes l.fn.net) l.fn.self → AreWoken (g.N.Network.wakes l.net) l.self;
   ended : Stays (g.N.Network.has_ended l.fn.net) (g.N.Network.has_ended l.net);
   free : Stays (g.N.Network.is_free l.fn.net) (g.N.Network.is_free l.net);
+  calls : Recalls (g.N.Network.made l.fn.net) (g.N.Network.made l.net);
   room : length l.piece ≡ length l.fn.piece;
 }

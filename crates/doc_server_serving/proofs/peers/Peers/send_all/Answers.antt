@@ -18,6 +18,7 @@ numbers-init g c = record {
   woken = λ w. w;
   ended = λ k e. e;
   free = λ k f. f;
+  calls = λ k f. f;
 }
 
 pub numbers-preserved : goal.numbers-preserved
@@ -35,6 +36,7 @@ numbers-preserved g c = record {
   woken = λ w. c.send_at.ensures.woken (c.numbers.invariant.woken w);
   ended = λ k e. c.send_at.ensures.ended k (c.numbers.invariant.ended k e);
   free = λ k f. c.send_at.ensures.free k (c.numbers.invariant.free k f);
+  calls = λ k f. c.send_at.ensures.calls k (c.numbers.invariant.calls k f);
 }
 
 pub returns-clause-sent : goal.returns-clause-sent

@@ -1,5 +1,5 @@
 use Rattle.std.proofs.Common.{take}
-use Rattle.doc_server_network.specs.Networks.{Rests, Stays}
+use Rattle.doc_server_network.specs.Networks.{Recalls, Rests, Stays}
 use Rattle.doc_server_serving.specs.Hearing.{SparesAll}
 use Rattle.doc_server_serving.specs.Wirings.{AreWoken, Gives, HaveSent}
 use Rattle.doc_server_serving.proofs.peers.Peers.send_all.Given as goal
@@ -13,4 +13,5 @@ invariant-numbers g l = record {
   woken : AreWoken (g.N.Network.wakes l.fn.net) l.fn.self → AreWoken (g.N.Network.wakes l.net) l.self;
   ended : Stays (g.N.Network.has_ended l.fn.net) (g.N.Network.has_ended l.net);
   free : Stays (g.N.Network.is_free l.fn.net) (g.N.Network.is_free l.net);
+  calls : Recalls (g.N.Network.made l.fn.net) (g.N.Network.made l.net);
 }

@@ -1,5 +1,5 @@
 use Rattle.std.proofs.Common.{◌≡◌, length, take}
-use Rattle.doc_server_network.specs.Networks.{Rests, Stays}
+use Rattle.doc_server_network.specs.Networks.{Recalls, Rests, Stays}
 use Rattle.doc_server_network.specs.Saved.{IsReady, StaysSaved}
 use Rattle.doc_server_serving.specs.Wirings.{AreWoken}
 use Rattle.doc_server_serving.proofs.TableServing.{AllSharing}
@@ -13,6 +13,7 @@ invariant-numbers g l = record {
   woken : AreWoken (g.N.Network.wakes l.fn.net) l.fn.self → AreWoken (g.N.Network.wakes l.net) l.self;
   ended : Stays (g.N.Network.has_ended l.fn.net) (g.N.Network.has_ended l.net);
   free : Stays (g.N.Network.is_free l.fn.net) (g.N.Network.is_free l.net);
+  calls : Recalls (g.N.Network.made l.fn.net) (g.N.Network.made l.net);
   same : g.R.Renderer.page l.saved.hub.0 ≡ g.R.Renderer.page l.fn.saved.hub.0;
   saved : StaysSaved g.D.Device.seen g.D.Device.may_leave g.D.Device.failed g.D.Device.stale l.fn.saved l.saved;
   ready : IsReady g.D.Device.seen g.D.Device.may_leave g.D.Device.failed g.D.Device.stale l.fn.saved

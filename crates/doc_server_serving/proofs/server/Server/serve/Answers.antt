@@ -1,8 +1,9 @@
-use Rattle.std.proofs.Common.{◌≤◌, refl, subst, sym, ◌∙◌}
+use Rattle.std.proofs.Common.{◌≤◌, refl, subst, sym, ◌∙◌, arith, inl, inr}
 use Rattle.std.specs.FinMap as map
 use Rattle.doc_server_network.specs.Crashes.{Restores}
 use Rattle.doc_server_serving.specs.Crashing.{RestoresFront}
 use Rattle.doc_server_serving.proofs.Accepting.{goes_silently}
+use Rattle.doc_server_serving.proofs.Asking.{waited_once}
 use Rattle.doc_server_serving.proofs.Bounds.{nobody}
 use Rattle.doc_server_serving.proofs.Crashing.{at_first, leaves_weaker, turn_behind}
 use Rattle.doc_server_serving.proofs.Going.{goes_join, nobody_rests, served}
@@ -15,6 +16,7 @@ turns-init g c = record {
   settled = λ config is. c.in_ok-keep_room.ensures.settled config is;
   bound = nobody c.args.self.now.peers c.args.self.now.door.most (λ k. (c.requires.new.new k).none);
   most = refl;
+  waited = inl refl;
   goes = goes_silently g.R.Renderer.page g.N.Network.came g.N.Network.gone g.N.Network.wakes g.N.Network.is_free c.args.saved.now.hub
       c.keep_room.new.saved.hub c.args.net.now c.args.self.now.peers c.keep_room.ensures.same c.keep_room.ensures.quiet;
   crashes = λ config all is.
@@ -89,6 +91,7 @@ turns-preserved g c = record {
   bound = subst (λ most. map.len c.turn.new.self.peers ≤ most) c.turns.invariant.most
       (c.turn.ensures.bound (subst (λ most. map.len c.turns.self.peers ≤ most) (sym c.turns.invariant.most) c.turns.invariant.bound));
   most = c.turn.ensures.most ∙ c.turns.invariant.most;
+  waited = inr c.turn.ensures.waits;
   goes = goes_join g.R.Renderer.page g.N.Network.came g.N.Network.gone g.N.Network.wakes g.N.Network.is_free c.args.saved.now.hub
       c.turns.saved.hub c.turn.new.saved.hub c.args.net.now c.turns.net c.turn.new.net c.args.self.now.peers c.turns.self.peers
       c.turn.new.self.peers c.turns.invariant.goes c.turn.ensures.goes;
@@ -192,3 +195,9 @@ returns-clause-any_moment g c = (
       c.turns.saved.hub c.args.net.now c.turns.net c.args.self.now.peers c.turns.self.peers c.requires.new c.turns.invariant.goes,
   c.turns.invariant.crashes,
 )
+
+pub returns-clause-why : goal.returns-clause-why
+returns-clause-why g c = λ is. waited_once c.turns.counter (g.N.Network.made c.turns.net) (omega (arith, c.turns-test.false)) c.turns.invariant.waited
+
+pub returns-in_err-turn-clause-why : goal.returns-in_err-turn-clause-why
+returns-in_err-turn-clause-why g c = λ is. c.turn.ensures.waits

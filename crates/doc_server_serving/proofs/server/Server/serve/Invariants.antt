@@ -1,6 +1,8 @@
 use Rattle.std.proofs.Common.{◌≡◌, ◌≤◌}
+use Rattle.std.specs.Prelude.{◌⊎◌}
 use Rattle.std.specs.FinMap as map
 use Rattle.doc_server_network.specs.Crashes.{CrashesLeave}
+use Rattle.doc_server_network.specs.Networks.{WasWaitedFor}
 use Rattle.doc_server_network.specs.Saved.{IsAllSaved, IsReady, IsSettled}
 use Rattle.doc_store.specs.Store.{StoreState}
 use Rattle.doc_server_serving.specs.Crashing.{AreKnown, RestoresFront}
@@ -15,6 +17,7 @@ invariant-turns g l = record {
       → IsSettled g.D.Device.seen g.D.Device.may_leave g.D.Device.failed g.D.Device.stale config l.saved;
   bound : map.len l.self.peers ≤ l.fn.self.door.most;
   most : l.self.door.most ≡ l.fn.self.door.most;
+  waited : (l.counter ≡ 0) ⊎ WasWaitedFor (g.N.Network.made l.net);
   goes : GoesOn g.R.Renderer.page g.N.Network.came g.N.Network.gone g.N.Network.wakes g.N.Network.is_free l.fn.saved.hub l.saved.hub
       l.fn.net l.net l.fn.self.peers l.self.peers;
   crashes : (config : StoreState) → AreKnown g.D.Device.seen
