@@ -1,6 +1,6 @@
 -- Answers where no edits are taken: none makes one.
 use Rattle.std.proofs.Common.{◌≡◌, Bool, true, false, List, ℕ, refl, ap, sym, ◌∙◌, subst}
-use Rattle.std.specs.Prelude.{◌&&◌, ◌==◌, not, IfOk, Option, Some, None, option_map, Result, Ok, Err, ⊤, if◌then◌else◌}
+use Rattle.std.specs.Prelude.{◌&&◌, ◌==◌, not, codes, IfOk, Option, Some, None, option_map, Result, Ok, Err, ⊤, if◌then◌else◌}
 use Rattle.std.specs.Str.{is_utf8}
 use Rattle.doc_http.specs.declared.request.Request.{Request}
 use Rattle.doc_http.specs.Requests.{is_bare}
@@ -36,10 +36,11 @@ use Rattle.doc_hub_asking.specs.Asking as asked
 use Rattle.doc_hub_media.specs.PeopleAnswers.{offers_for, people_reply}
 use Rattle.doc_hub_editing_refusals.specs.Asked.{EditRequest}
 use Rattle.doc_hub_editing_refusals.specs.Asked as requests
-use Rattle.doc_hub_media.specs.EditAnswers.{by_other, by_owner, edit_response, preview_at, preview_text, response_if, shows_preview}
+use Rattle.doc_hub_media.specs.EditAnswers.{by_other, by_owner, edit_response, preview_at, preview_of, response_if, shows_preview}
 use Rattle.doc_hub_media.specs.EditRequests.{asked_by, at_edit_route, edit_request_of}
 use Rattle.doc_hub_media.specs.EditRequests as asks
 use Rattle.doc_hub_media.specs.EditResponses.{EditingResponse}
+use Rattle.doc_hub_media.specs.EditResponses as responses
 use Rattle.doc_hub_media.specs.MediaAnswers.{is_preview_kept}
 use Rattle.doc_hub_replies.proofs.AnswerLaws.{edits_nothing_beside}
 use Rattle.doc_hub_replies.proofs.EditLaws.{EditsNothing, nobody_edits, other_alone, owner_alone}
@@ -135,18 +136,21 @@ left_without false route other method left none = left
 
 -- ---- responses
 
-preview_quiet : (render : Renders) (browse : Browse) (view : View) (beside : Beside) (path : List ℕ) (request : Request)
-    (markdown utf8 : Bool) → request.markdown ≡ markdown → is_utf8 request.body ≡ utf8
-    → (preview_text render browse view beside path request).edit ≡ None
-preview_quiet render browse view beside path request false utf8 is text = rw is refl
-preview_quiet render browse view beside path request true true is text = rw (is, text) refl
-preview_quiet render browse view beside path request true false is text = rw (is, text) refl
+-- a preview, by whether the text has the type that it must have, and whether it is UTF-8
+preview_by : (markdown utf8 : Bool) (untyped shown broken : EditingResponse) → untyped.edit ≡ None → shown.edit ≡ None
+    → broken.edit ≡ None
+    → (let response : EditingResponse = (if not markdown then untyped else (if utf8 then shown else broken)) in response.edit ≡ None)
+preview_by false utf8 untyped shown broken first second third = first
+preview_by true true untyped shown broken first second third = second
+preview_by true false untyped shown broken first second third = third
 
 preview_at_quiet : (render : Renders) (browse : Browse) (view : View) (beside : Beside) (path : Option (List ℕ)) (request : Request)
     → (preview_at render browse view beside path request).edit ≡ None
 preview_at_quiet render browse view beside None request = refl
 preview_at_quiet render browse view beside (Some path) request =
-    preview_quiet render browse view beside path request request.markdown (is_utf8 request.body) refl refl
+    preview_by request.markdown (is_utf8 request.body) (responses.refused 415)
+    (responses.only_reply (responses.Shown (preview_of browse view beside path (render request.body))))
+    (responses.refused_for 400 (codes "the text is not UTF-8")) refl refl refl
 
 module _ (render : Renders) (browse : Browse) (view : View) (beside : Beside) (left people : Bool) (request : Request) where
   owner_quiet : (offers : Offers) (what : EditRequest) → Quiet what

@@ -6,7 +6,7 @@ ghost use Rattle.doc_http_targets.specs.Targets.{route_shown};
 ghost use Rattle.doc_hub_asking.specs.Asking.{reader_asking};
 ghost use Rattle.doc_hub_replies.specs.Answers.{dress_by};
 ghost use Rattle.doc_hub_replies.specs.ServingSteps.{closes_after};
-ghost use Rattle.doc_hub_replies.specs.TakingEdits.{editing_route, left_of, left_of_editing, left_to, not_left, refused_method, unless_left};
+ghost use Rattle.doc_hub_replies.specs.TakingEdits.{editing_route, left_of, left_of_editing, left_to, not_left, posts, refused_method, unless_left};
 
 use crate::serving::Serving;
 use doc_http::reply::Allow;
@@ -75,8 +75,15 @@ fn left_of_editing(route: EditRoute<'_>, method: Method) -> Option<Allow>
     match route {
         EditRoute::Source(_) | EditRoute::Edit(_) => unless_left(method.reads(), Allow::Read),
         EditRoute::Groups(_) | EditRoute::Move(_) => Some(Allow::Nothing),
-        EditRoute::Preview(_) => unless_left(matches!(method, Method::Post), Allow::Post),
+        EditRoute::Preview(_) => unless_left(posts(method), Allow::Post),
     }
+}
+
+/// Whether the method sends a text.
+fn posts(method: Method) -> bool
+    ensures { result ≡ posts method }
+{
+    matches!(method, Method::Post)
 }
 
 /// What is left of a page. Lists are only read in any case.

@@ -8,7 +8,7 @@ returns-in-Some-clause-answer g c =
     let self = c.args.self.now in
     let store = c.args.shelf.now.1 in
     refused_so self.settings.now (g.R.Renderer.page c.args.shelf.now.0) self.readers.now self.media.now
-    (puts_taken self.takes_puts store.puts) c.args.request.now store c.in-Some.answer (sym c.in-Some.is ∙ c.in_ok-without_edits.ensures)
+    (puts_taken self.takes_puts store.puts) c.args.request.now store c.in-Some.answer (sym c.in-Some.is ∙ c.in_ok-answer.ensures)
 
 pub returns-in-Some-clause-counted : goal.returns-in-Some-clause-counted
 returns-in-Some-clause-counted g c =
@@ -16,7 +16,7 @@ returns-in-Some-clause-counted g c =
     let store = c.args.shelf.now.1 in
     refused_counted self.settings.now (g.R.Renderer.page c.args.shelf.now.0) self.readers.now self.media.now
     (puts_taken self.takes_puts store.puts) c.args.request.now store (g.R.Renderer.count c.args.shelf.now.0) store.puts c.in-Some.answer
-    (sym c.in-Some.is ∙ c.in_ok-without_edits.ensures)
+    (sym c.in-Some.is ∙ c.in_ok-answer.ensures)
 
 pub returns-in-None-clause-answer : goal.returns-in-None-clause-answer
 returns-in-None-clause-answer g c =
@@ -24,4 +24,4 @@ returns-in-None-clause-answer g c =
     let store = c.args.shelf.now.1 in
     given_by self.settings.now (g.R.Renderer.page c.args.shelf.now.0) self.readers.now self.media.now
     (puts_taken self.takes_puts store.puts) c.args.request.now store c.with_edits.new.shelf.1 c.with_edits.result
-    (sym c.in-None.is ∙ c.in_ok-without_edits.ensures) c.with_edits.ensures.answer
+    (sym c.in-None.is ∙ c.in_ok-answer.ensures) c.with_edits.ensures.answer

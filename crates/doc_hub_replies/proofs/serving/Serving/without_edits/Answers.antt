@@ -41,6 +41,6 @@ returns c =
     ∙ refusal_sent c.exchange-exchange.result request c.manner_by.result (dress_by settings.browse asking) (closes_after settings request)
     c.in-Some.allow c.exchange-exchange.ensures.manner (c.manner_by.ensures.dress ∙ ap (dress_by settings.browse) c.in_ok-asking.ensures)
     c.manner_by.ensures.head_only c.manner_by.ensures.close)
-    ∙ refused_where_not refusal settings asking request c.in-Some.allow c.in-Some-row.row.now c.if-self.false
+    ∙ refused_where_not refusal settings asking request c.in-Some.allow _ c.if-self.false
     (ap (λ browse. not_left browse request) (sym c.browse.ensures) ∙ sym c.not_left.ensures ∙ c.in-Some.is)
     (c.in-Some-row.ensures ∙ ap row_of c.in_ok-asking.ensures)
