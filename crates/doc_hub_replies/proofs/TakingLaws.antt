@@ -407,16 +407,16 @@ refused_where true route other method allow is preview = refused_no_preview rout
 refused_where false route other method allow is preview = preview
 
 shows_none : (owner : Bool) (request : Request) (what : Option EditRequest) → (IsPreview what → ⊥) → shows_preview owner request what ≡ false
-shows_none owner request None no = refl
-shows_none owner request (Some (requests.ReadSource rest)) no = refl
-shows_none owner request (Some (requests.PutSource rest)) no = refl
-shows_none owner request (Some (requests.PutPage rest)) no = refl
-shows_none owner request (Some (requests.Remove rest)) no = refl
-shows_none owner request (Some (requests.Regroup rest)) no = refl
-shows_none owner request (Some (requests.Move rest)) no = refl
-shows_none owner request (Some (requests.Open rest)) no = refl
-shows_none owner request (Some (requests.Preview rest)) no = absurd (no tt)
-shows_none owner request (Some (requests.NotAllowed resource)) no = refl
+shows_none owner request None never = refl
+shows_none owner request (Some (requests.ReadSource rest)) never = refl
+shows_none owner request (Some (requests.PutSource rest)) never = refl
+shows_none owner request (Some (requests.PutPage rest)) never = refl
+shows_none owner request (Some (requests.Remove rest)) never = refl
+shows_none owner request (Some (requests.Regroup rest)) never = refl
+shows_none owner request (Some (requests.Move rest)) never = refl
+shows_none owner request (Some (requests.Open rest)) never = refl
+shows_none owner request (Some (requests.Preview rest)) never = absurd (never tt)
+shows_none owner request (Some (requests.NotAllowed resource)) never = refl
 
 told_is : (asking : Asking) (allow : Option Allow) (told : Allow) → told_to asking allow ≡ Some told → allow ≡ Some told
 told_is asked.Nobody allow told is = none_is_some told (sym is)
