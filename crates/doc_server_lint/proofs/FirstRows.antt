@@ -31,7 +31,7 @@ use Rattle.doc_server_lint.specs.Faults.{faults_of_readers, faults_of_rows, faul
 use Rattle.doc_server_lint.specs.Faults.{with_reader}
 use Rattle.doc_server_lint.specs.Findings.{findings_of}
 use Rattle.doc_server_lint.specs.Laws.{first_refusal, is_again, is_clear, is_of_reader, is_refusal}
-use Rattle.doc_server_lint.specs.Rules.{browse_keys, listen_keys, markdown_keys, reader_keys, top_keys}
+use Rattle.doc_server_lint.specs.Rules.{browse_keys, listen_keys, markdown_keys, top_keys}
 use Rattle.doc_server_lint.specs.Values.{form_told, group_told, groups_fault, is_form, key_fault, refused_groups, strings_of, text_fault}
 use Rattle.doc_server_lint.specs.Values.{told}
 use Rattle.doc_server_lint.specs.Warnings.{warnings_of}

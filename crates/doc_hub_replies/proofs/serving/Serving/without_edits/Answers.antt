@@ -1,6 +1,5 @@
-use Rattle.std.proofs.Common.{◌≡◌, Some, None, ap, sym, ◌∙◌}
-use Rattle.std.specs.Prelude.{option_map}
-use Rattle.doc_hub_asking.specs.Asking.{Asking, reader_asking, row_of}
+use Rattle.std.proofs.Common.{Some, ap, sym, ◌∙◌}
+use Rattle.doc_hub_asking.specs.Asking.{reader_asking, row_of}
 use Rattle.doc_hub_replies.proofs.TakingLaws.{none_to_nobody, none_where_left, none_where_taken, refusal_sent, refused_where_not}
 use Rattle.doc_hub_replies.specs.Answers.{dress_by}
 use Rattle.doc_hub_replies.specs.ServingSteps.{closes_after}
