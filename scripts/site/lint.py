@@ -8,6 +8,7 @@ line stands below the faults that `lint` tells. Lines are counted here, and jour
 Builds nothing: PROGRAM is crates/docs_server/out/docs_server, or any other build. 200 configurations take some 20 seconds.
 """
 import fcntl, itertools, os, random, re, subprocess, sys
+from hashlib import sha256
 sys.path.insert(1, os.path.dirname(__file__) + "/../lib")
 from scene import HOST, Scene, got, put
 from journals import written as journal_of
@@ -124,6 +125,9 @@ def readers():
     told("no text", GOOD + "[[reader]]\ntoken = 1\n", ":8: reader 2: `token` must be a string")
     told("no bearer token", GOOD + '[[reader]]\ntoken = "a b"\n', ":8: reader 2: `token` is no bearer token")
     told("twice", GOOD + f'[[reader]]\ntoken = "{TOKEN}"\n', ":8: reader 2: the token of reader 1")
+    told("twice by digest", GOOD + f'[[reader]]\ntoken_sha256 = "{sha256(TOKEN.encode()).hexdigest()}"\n', ":8: reader 2: the token of reader 1")
+    told("no digest", GOOD + '[[reader]]\ntoken_sha256 = "ab"\n', ":8: reader 2: `token_sha256` is bad")
+    told("both", GOOD + f'[[reader]]\ntoken = "{TOKEN}2"\ntoken_sha256 = "{64 * "0"}"\n', ":8: reader 2: both `token` and `token_sha256`")
     told("short", GOOD + '[[reader]]\ntoken = "tok"\n', ":8: reader 2: warning: a token of fewer than 22 characters can be guessed")
     told("onwer", GOOD + f'[[reader]]\ntoken = "{TOKEN}2"\nonwer = true\n', ":8: reader 2: warning: unknown key `onwer`: is `owner` meant?")
 

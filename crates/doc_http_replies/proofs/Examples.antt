@@ -2,7 +2,7 @@
 use Rattle.std.proofs.Common.{◌≡◌, ◌++◌, [], true, false, codes, refl}
 use Rattle.std.specs.Prelude.{Some, None}
 use Rattle.std.specs.Fmt.{digits}
-use Rattle.doc_http_replies.specs.declared.reply.Allow.TheVariants.{Page, Read, Write, Post}
+use Rattle.doc_http_replies.specs.declared.reply.Allow.TheVariants.{Page, Read, Write, Post, Nothing}
 use Rattle.doc_http_replies.specs.declared.reply_form.ReplyForm.TheVariants as forms
 use Rattle.doc_http_replies.specs.declared.status.Status.TheVariants as statuses
 use Rattle.doc_http_replies.specs.Replies.{reason_of, field_line, reply_head, reply_bytes}
@@ -90,6 +90,12 @@ a_resource_to_send_to : reply_bytes (record { code = 405; html = false; allow = 
     ++ codes "Allow: POST\r\n\r\n405 Method Not Allowed\n"
 unfolding computing
 a_resource_to_send_to = refl
+
+a_resource_without_methods : reply_bytes (record { code = 405; html = false; allow = Some Nothing; location = None; body = [] }) false false
+    ≡ codes "HTTP/1.1 405 Method Not Allowed\r\nContent-Type: text/plain; charset=utf-8\r\nContent-Length: 23\r\n"
+    ++ codes "Allow: \r\n\r\n405 Method Not Allowed\n"
+unfolding computing
+a_resource_without_methods = refl
 
 moved : reply_bytes (record { code = 301; html = false; allow = None; location = Some (codes "/page/b.md"); body = [] }) false false
     ≡ codes "HTTP/1.1 301 Moved Permanently\r\nContent-Type: text/plain; charset=utf-8\r\nContent-Length: 22\r\nLocation: /page/b.md\r\n\r\n301 Moved Permanently\n"

@@ -4,7 +4,7 @@ use Rattle.std.specs.List.{list_any}
 use Rattle.doc_http_replies.specs.Challenges.{bearer_challenge}
 use Rattle.doc_http_replies.specs.declared.reply.Reply.{Reply}
 use Rattle.doc_http_replies.specs.declared.reply.Allow.{Allow}
-use Rattle.doc_http_replies.specs.declared.reply.Allow.TheVariants.{Page, Read, Write, Post}
+use Rattle.doc_http_replies.specs.declared.reply.Allow.TheVariants.{Page, Read, Write, Post, Nothing}
 
 -- the reason phrase of a code (RFC 9110, section 15; 431: RFC 6585, section 5; 507: RFC 4918, section 11.5)
 unfoldable pub reason_of : ℕ → List ℕ
@@ -64,6 +64,7 @@ allowed_methods Page = codes "GET, HEAD, PUT, DELETE"
 allowed_methods Read = codes "GET, HEAD"
 allowed_methods Write = codes "PUT"
 allowed_methods Post = codes "POST"
+allowed_methods Nothing = []
 
 -- the methods that a resource has (RFC 9110, section 10.2.1)
 abbrev pub allow_line : Option Allow → List ℕ

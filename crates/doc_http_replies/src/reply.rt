@@ -39,6 +39,8 @@ pub enum Allow {
     Write,
     /// What texts are sent to: POST.
     Post,
+    /// What has no method (RFC 9110, section 10.2.1).
+    Nothing,
 }
 
 impl Reply {
@@ -84,6 +86,7 @@ impl Allow {
             Allow::Read => "GET, HEAD",
             Allow::Write => "PUT",
             Allow::Post => "POST",
+            Allow::Nothing => "",
         }
     }
 }

@@ -16,10 +16,12 @@ use Rattle.doc_hub_replies.proofs.EditsCan.{EditingCan, edit_response_can}
 use Rattle.doc_hub_replies.specs.EditAnswers.{edit_response}
 use Rattle.doc_hub_replies.specs.EditResponses.{EditingResponse}
 use Rattle.doc_hub_asking.specs.Asking.{Asking, is_guest, row_of}
+use Rattle.doc_hub_replies.proofs.TakingLaws.{given_by_edit}
 use Rattle.doc_hub_replies.specs.PeopleAnswers.{people_reply}
 use Rattle.doc_hub_replies.specs.Answers.{answer_by, answer_of, asks_for_style, dress_by, dress_for, edited_or, is_for_people}
 use Rattle.doc_hub_replies.specs.Answers.{kept_from_guests}
 use Rattle.doc_hub_replies.specs.Answers.{media_or, people_answer, style_answer, unedited}
+use Rattle.doc_hub_replies.specs.TakingEdits.{answer_given}
 use Rattle.doc_people.specs.declared.settings.Browse.{Browse}
 use Rattle.doc_people.specs.declared.settings.Settings.{Settings}
 use Rattle.doc_store.specs.Store.{StoreState}
@@ -75,16 +77,21 @@ module _ (P : Option Edit → Type 0) (nothing : P None) where
         either (asks_for_style request) (style_answer close request) (edited_or found (dress_for browse asking) close request other) nothing
         (edited found (dress_for browse asking) close request other (edits browse) (not_editing browse close))
 
-    pub answer_holds : ((browse : Browse) → HoldsFor P (edit_response render browse view media asking left (is_for_people request) request))
+    taken_holds : ((browse : Browse) → HoldsFor P (edit_response render browse view media asking left (is_for_people request) request))
         → (settings : Settings) → P (answer_of settings render view media asking left request).edit
     unfolding answer_of
-    answer_holds edits settings =
+    taken_holds edits settings =
         let close : Bool = request.close || not settings.keep_alive in
         let found : Option MediaResponse = media_response settings.browse render view media asking (is_for_people request) request in
         beside found (dress_by settings.browse asking) close request (answer_by settings.browse render view media asking left close request)
         (media_edit_nothing settings.browse render view media asking (is_for_people request) close request
         (dress_by settings.browse asking))
         (by_browse edits settings.browse close)
+
+    -- whether or not edits are taken
+    pub answer_holds : ((browse : Browse) → HoldsFor P (edit_response render browse view media asking left (is_for_people request) request))
+        → (settings : Settings) → P (answer_given settings render view media asking left request).edit
+    answer_holds edits settings = given_by_edit P settings render view media asking left request nothing (taken_holds edits settings)
 
 can_holds : (store : StoreState) (text : List ℕ) (found : Option EditingResponse) → EditingCan store text found
     → HoldsFor (CanBeMade store text) found
@@ -95,7 +102,7 @@ can_holds store text (Some response) can = can
 pub answer_can_be_made : (takes : Bool) (render : Renders) (settings : Settings) (media : Media) (store : StoreState) (asking : Asking)
     (request : Request)
     → CanBeMade store request.body
-    (answer_of settings render (view_of store.site (row_of asking)) (beside_of media (row_of asking)) asking (puts_taken takes store.puts)
+    (answer_given settings render (view_of store.site (row_of asking)) (beside_of media (row_of asking)) asking (puts_taken takes store.puts)
     request).edit
 answer_can_be_made takes render settings media store asking request =
     answer_holds (CanBeMade store request.body) tt render (view_of store.site (row_of asking)) (beside_of media (row_of asking)) asking

@@ -49,6 +49,7 @@ use Rattle.doc_hub_replies.specs.MediaRequests as media_requests
 use Rattle.doc_hub.proofs.AnswerEdits.{not_editing}
 use Rattle.doc_hub.proofs.Apart.{StaysFree}
 use Rattle.doc_hub_replies.proofs.MediaLaws.{media_edit_nothing}
+use Rattle.doc_hub_replies.proofs.TakingLaws.{given_by_edit}
 use Rattle.doc_hub.specs.Worlds.{World, answer_in, asking_of, has_medium, reader_of}
 
 some_none : {X Y : Type 0} (x : X) → Some x ≡ None → Y
@@ -422,6 +423,8 @@ module _ (render : Renders) (view : View) (left : Bool) (request : Request) (bro
 pub answer_stays_free : (render : Renders) (w : World) (request : Request) → StaysFree w.media (answer_in render w request).edit
 unfolding answer_of
 answer_stays_free render w request =
-    beside_free render (view_of w.site (reader_of w request)) (puts_taken w.takes_puts w.puts) request w.settings.browse
+    given_by_edit (StaysFree w.media) w.settings render (view_of w.site (reader_of w request)) (beside_of w.media (reader_of w request))
+    (asking_of w request) (puts_taken w.takes_puts w.puts) request tt
+    (beside_free render (view_of w.site (reader_of w request)) (puts_taken w.takes_puts w.puts) request w.settings.browse
     (asking_of w request)
-    (request.close || not w.settings.keep_alive) w.media
+    (request.close || not w.settings.keep_alive) w.media)

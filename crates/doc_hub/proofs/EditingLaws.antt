@@ -34,6 +34,8 @@ use Rattle.doc_hub_replies.specs.Answers.{asks_for_style, unedited}
 use Rattle.doc_hub.specs.EditingLaws.{IsEditedBy, NamesWhatStood, NoPageIsReplacedUnasked, NoUpdateIsLost, ReplacesNothing}
 use Rattle.doc_hub.specs.Runs.{Happened}
 use Rattle.doc_hub.specs.Worlds.{World, asking_of, reader_of}
+use Rattle.doc_hub_replies.proofs.TakingLaws.{given_edit_is}
+use Rattle.doc_hub_replies.specs.TakingEdits.{answer_given}
 use Rattle.doc_hub.proofs.AnswerEdits.{not_editing}
 use Rattle.doc_hub_replies.proofs.MediaLaws.{media_edit_nothing}
 
@@ -142,10 +144,10 @@ module _ (render : Renders) (browse : Browse) (view : View) (beside : Beside) (l
     not_beside None dress close other none is = is
     not_beside (Some response) dress close other none is = absent edit (sym (none response refl) ∙ is)
 
-    edit_asked : (settings : Settings) (asking : Asking) → settings.browse ≡ Some browse
+    taken_asked : (settings : Settings) (asking : Asking) → settings.browse ≡ Some browse
         → (answer_of settings render view beside asking left request).edit ≡ Some edit → Asked asking
     unfolding answer_of
-    edit_asked settings asking set is =
+    taken_asked settings asking set is =
         let close : Bool = request.close || not settings.keep_alive in
         let found : Option MediaResponse = media_response settings.browse render view beside asking (is_for_people request) request in
         let other : Answer = answer_by settings.browse render view beside asking left close request in
@@ -154,6 +156,12 @@ module _ (render : Renders) (browse : Browse) (view : View) (beside : Beside) (l
         ∙ not_beside found (dress_by settings.browse asking) close other
         (media_edit_nothing settings.browse render view beside asking (is_for_people request) close request
         (dress_by settings.browse asking)) is)
+
+    -- whether or not edits are taken
+    edit_asked : (settings : Settings) (asking : Asking) → settings.browse ≡ Some browse
+        → (answer_given settings render view beside asking left request).edit ≡ Some edit → Asked asking
+    edit_asked settings asking set is =
+        taken_asked settings asking set (given_edit_is settings render view beside asking left request edit is)
 
     -- and that is an owner's
     owner_asked : (guest : Bool) (row : Reader) (what : EditRequest)

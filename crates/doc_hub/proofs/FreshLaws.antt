@@ -3,15 +3,15 @@ use Rattle.std.proofs.Common.{◌≡◌, ◌≤◌, ◌+◌, ℕ, List, length, 
 use Rattle.std.specs.Prelude.{nat_lt, Option, Some, None, option_and_then, Result, Ok, Err, All}
 use Rattle.std.specs.FinMap as map
 use Rattle.std.specs.Cmp.{eq_by_cmp_equiv}
-use Rattle.std.specs.Cmp.Lexicographic.{slice_cmp}
 use Rattle.std.specs.Ordering.{nat_cmp}
 use Rattle.std.proofs.lemmas.Bool.Decides.{nat_tests}
-use Rattle.std.proofs.lemmas.Cmp.{nat_cmp_total, nat_list_cmp_total}
+use Rattle.std.proofs.lemmas.Cmp.{nat_cmp_total}
 use Rattle.std.proofs.lemmas.List.Elements.{All-nil, All-cons}
 use Rattle.doc_store_readers.specs.declared.reader.Reader.{Reader}
-use Rattle.doc_store_readers.specs.Readers.{ReaderTable}
+use Rattle.doc_store_readers.specs.Readers.{ReaderTable, find_in, no_readers}
 use Rattle.doc_store_readers.specs.Sites.{visible_to}
 use Rattle.doc_store.specs.Store.{put_limit}
+use Rattle.doc_store_readers.proofs.FindLaws.{nobody_found, who_is_set_is_found}
 use Rattle.doc_store_readers.proofs.ViewLaw.{view_of_view}
 use Rattle.doc_media.specs.Media.{media_visible_to}
 use Rattle.doc_media.proofs.MediaLaws.{media_of_media}
@@ -47,18 +47,14 @@ use Rattle.doc_hub.proofs.Takings.{taking_stands}
 -- ---- the fresh server
 
 -- it has the reader's entry under the same token
-found_again : (token : List ℕ) (o : Option Reader) → o ≡ map.get (only_reader (Some token) o) token
-found_again token None = sym (map.get-empty (slice_cmp nat_cmp) token)
-found_again token (Some reader) =
-    let empty : ReaderTable = map.empty in
-    sym (map.get-insert nat_list_cmp_total empty token reader token
-    ∙ ap (λ b. cond b (Some reader) (map.get empty token)) ((eq_by_cmp_equiv nat_list_cmp_total).refl token))
+found_again : (token : List ℕ) (o : Option Reader) → o ≡ find_in (only_reader (Some token) o) token
+found_again token None = sym (nobody_found token)
+found_again token (Some reader) = sym (who_is_set_is_found no_readers token reader)
 
 reader_again : (readers : ReaderTable) (token : Option (List ℕ))
-    → option_and_then (map.get readers) token ≡ option_and_then (map.get (only_reader token (option_and_then (map.get readers) token)))
-    token
+    → option_and_then (find_in readers) token ≡ option_and_then (find_in (only_reader token (option_and_then (find_in readers) token))) token
 reader_again readers None = refl
-reader_again readers (Some token) = found_again token (map.get readers token)
+reader_again readers (Some token) = found_again token (find_in readers token)
 
 -- the entry of a reader who is known is told again
 known_again : (o : Option Reader) → o ≡ known_of (known_by o)
@@ -73,7 +69,7 @@ asking_again guest login readers None = refl
 asking_again guest login readers (Some value) =
     let token = token_in login (Some value) in
     ap known_by (reader_again readers token
-    ∙ ap (λ o. option_and_then (map.get (only_reader token o)) token) (known_again (option_and_then (map.get readers) token)))
+    ∙ ap (λ o. option_and_then (find_in (only_reader token o)) token) (known_again (option_and_then (find_in readers) token)))
 
 -- a world is alike for a request with its fresh server, where both take a put or no owner puts a page
 fresh_agrees : (puts : ℕ) (w : World) (request : Request) (unread : List ℕ)

@@ -65,6 +65,8 @@ leaves_all_but_readers w v (reader_edits.Set token reader) said h =
     by_gives (HasReadersOf w) reader_errors.Memory (world_reader_set w token reader) w v said refl refl h
 leaves_all_but_readers w v (reader_edits.Remove token) said h =
     by_equation (HasReadersOf w) (world_reader_removed w token) v said refl h
+leaves_all_but_readers w v (reader_edits.All readers) said h =
+    by_gives (HasReadersOf w) reader_errors.Memory (world_readers_set w readers) w v said refl refl h
 
 pub stand_beside : (render : Renders) (w v : World) (event : Event) (said : Said event) → IsBeside event → Happens render w event v said
     → StandBeside w v

@@ -38,6 +38,7 @@ use Rattle.doc_hub_answers.specs.Replies.{Renders, fault_bytes}
 use Rattle.doc_hub_asking.specs.Asking.{known_by}
 use Rattle.doc_hub_replies.specs.MediaAnswers.{media_response}
 use Rattle.doc_hub_replies.specs.Answers.{answer_of}
+use Rattle.doc_hub_replies.specs.TakingEdits.{answer_given}
 use Rattle.doc_http_replies.specs.Heads.{dressed_bytes, dressed_head}
 use Rattle.doc_hub.specs.StepEdits.{edit_of_step}
 use Rattle.doc_hub.specs.Worlds.{World, asking_of, plain_settings, reader_of}
@@ -54,7 +55,7 @@ use Rattle.doc_hub_answers.specs.declared.edit.Edit.TheVariants as edits
 unfoldable computing : Unit {0}
 unfolding digits chars is_utf8 encode percent_decode percent_encode_byte encoded encoded_path kind_on target_path_written put_all reference
     resolve without_dots escaped lines without_ending stripped filled is_path paragraphs plain_html reason_of field_line reply_head
-    reply_bytes dressed_head dressed_bytes answer_of media_response origin_form route_of path_written value_of raw_pairs split utf8_lossy
+    reply_bytes dressed_head dressed_bytes answer_given answer_of media_response origin_form route_of path_written value_of raw_pairs split utf8_lossy
     utf8_valid_len
     groups_of_names text_limit
     page_limit backlog_limit kinds backlinks broken broken_images contents backlinks_text entry_lines heading_line report_text
@@ -102,7 +103,7 @@ asked method target = record {
 -- the answer to whom an entry names, without pages for people
 abbrev answer_by_entry : Renders → View → Option Reader → Bool → Bool → Request → Answer
 answer_by_entry render view reader left keep_alive request =
-    answer_of (plain_settings keep_alive) render view None (known_by reader) left request
+    answer_given (plain_settings keep_alive) render view None (known_by reader) left request
 
 page_reply_bytes : (answer_by_entry plain_page staff_view ann true true (asked (codes "GET") (codes "/page/a.md"))).bytes
     ≡ codes "HTTP/1.1 200 OK\r\nContent-Type: text/html; charset=utf-8\r\n"
@@ -429,7 +430,7 @@ step_tells_what_is_seen : (w : World) (used : ℕ) (request : Request) (view : V
     → w.settings ≡ plain_settings true
     → edit_of_step plain_page w (nexts.Request used request) ≡ edit_seen view reader left request
 step_tells_what_is_seen w used request view reader left sees none is remains keeps =
-    λ i. (answer_of (keeps i) plain_page (sees i) (none i) (is i) (remains i) request).edit
+    λ i. (answer_given (keeps i) plain_page (sees i) (none i) (is i) (remains i) request).edit
 
 step_of_a_fault : (w : World) → edit_of_step plain_page w (nexts.Fault 400 false) ≡ None
 step_of_a_fault w = refl

@@ -4,17 +4,19 @@ use Rattle.std.specs.Prelude.{MatchBool, Option, Some, None, Result, Ok}
 use Rattle.std.specs.FinMap as map
 use Rattle.doc_store_readers.proofs.KeySteps.{get_set, same_itself}
 use Rattle.doc_store_readers.specs.Pages.{Page}
-use Rattle.doc_store_readers.specs.Sites.{Site}
+use Rattle.doc_store_readers.specs.Sites.{Site, view_of}
+use Rattle.doc_media.specs.Media.{beside_of}
 use Rattle.doc_store.specs.Store.{effect_of, set_page}
 use Rattle.doc_http.specs.Requests.{IsNext}
 use Rattle.doc_http.specs.declared.request.Request.{Request}
 use Rattle.doc_http.specs.declared.request.Next.{Next}
 use Rattle.doc_http.specs.declared.request.Next.TheVariants as nexts
 use Rattle.doc_http.proofs.LawLemmas.{read_in_one_way}
-use Rattle.doc_hub_answers.specs.Edits.{CanBeMade, CanRegroup, regrouped, store_after}
+use Rattle.doc_hub_answers.specs.Edits.{CanBeMade, CanRegroup, puts_taken, regrouped, store_after}
+use Rattle.doc_hub_replies.proofs.TakingLaws.{no_edit_is_made}
 use Rattle.doc_hub_answers.specs.Replies.{Renders}
-use Rattle.doc_hub.specs.StepEdits.{Changes, StepTells, StepsChange, TellsAt, WasRegrouped, edit_of_step}
-use Rattle.doc_hub.specs.Worlds.{World, Answers, Stays, StepsAt, answer_in, asking_of, stepped_by, store_of}
+use Rattle.doc_hub.specs.StepEdits.{Changes, NoStepEdits, StepTells, StepsChange, TellsAt, WasRegrouped, edit_of_step}
+use Rattle.doc_hub.specs.Worlds.{World, Answers, Stays, StepsAt, answer_in, asking_of, reader_of, stepped_by, store_of}
 use Rattle.doc_hub.specs.declared.connection.Connection.{Connection}
 use Rattle.doc_hub_events.specs.declared.event.Step.{Step}
 use Rattle.doc_hub_events.specs.declared.event.Step.TheVariants as steps
@@ -105,3 +107,25 @@ steps_change = record {
   answered = λ render w v id said edit h told. at_changes render w v id.0 said edit (map.get w.connections id.0) h told;
   refused = λ render w v id e h. refused_step render w v id.0 e (map.get w.connections id.0) h;
 }
+
+-- ---- where no edits are taken
+
+module _ (render : Renders) (w : World) (off : w.settings.takes_edits ≡ false) where
+  next_edits_nothing : (next : Next) → edit_of_step render w next ≡ None
+  next_edits_nothing nexts.More = refl
+  next_edits_nothing (nexts.Fault code bare) = refl
+  next_edits_nothing (nexts.Request used request) =
+      no_edit_is_made w.settings render (view_of w.site (reader_of w request)) (beside_of w.media (reader_of w request)) (asking_of w request)
+      (puts_taken w.takes_puts w.puts) request off
+
+  open_edits_nothing : (c : Connection) (edit : Option Edit) (closed : Bool)
+      → MatchBool closed (edit ≡ None) ((next : Next) × IsNext c.unread next × (edit ≡ edit_of_step render w next)) → edit ≡ None
+  open_edits_nothing c edit true told = told
+  open_edits_nothing c edit false (next, begins, is) = is ∙ next_edits_nothing next
+
+  at_edits_nothing : (k : Option Connection) (edit : Option Edit) → TellsAt render w k edit → edit ≡ None
+  at_edits_nothing None edit told = told
+  at_edits_nothing (Some c) edit told = open_edits_nothing c edit c.closed told
+
+pub no_step_edits : NoStepEdits
+no_step_edits render w id edit off told = at_edits_nothing render w off (map.get w.connections id) edit told

@@ -5,7 +5,7 @@ use Rattle.std.specs.FinMap as map
 use Rattle.doc_store_readers.specs.declared.reader.Reader.{Reader}
 use Rattle.doc_store_readers.specs.Maps.{TextMap}
 use Rattle.doc_store_readers.specs.Pages.{Page}
-use Rattle.doc_store_readers.specs.Sites.{View, view_of}
+use Rattle.doc_store_readers.specs.Sites.{View, view_of, visible_to}
 use Rattle.doc_media.specs.Media.{Beside, Media, beside_of, media_visible_to}
 use Rattle.doc_http.specs.Requests.{IsNext}
 use Rattle.doc_http.specs.declared.request.Request.{Request}
@@ -17,6 +17,7 @@ use Rattle.doc_http_targets.specs.Targets.{Route, route_of}
 use Rattle.doc_http_targets.specs.Targets as routes
 use Rattle.doc_hub_answers.specs.declared.answer.Answer.{Answer}
 use Rattle.doc_hub.specs.declared.connection.Connection.{Connection}
+use Rattle.doc_hub_events.specs.declared.event.ReaderEdit.TheVariants as reader_edits
 use Rattle.doc_hub_events.specs.declared.event.Step.{Step}
 use Rattle.doc_hub_answers.specs.declared.method.Method.{Method}
 use Rattle.doc_hub_answers.specs.declared.method.Method.TheVariants.{Get, Head, Put, Delete, Post, Other}
@@ -28,14 +29,17 @@ use Rattle.doc_hub_asking.specs.Asking.{Asking, is_guest, row_of}
 use Rattle.doc_hub_replies.specs.EditAnswers.{edit_response}
 use Rattle.doc_hub_replies.specs.PeopleAnswers.{people_reply}
 use Rattle.doc_hub_replies.specs.MediaAnswers.{MediaResponse, media_response}
+use Rattle.doc_hub_replies.specs.ServingSteps.{closes_after}
+use Rattle.doc_hub_replies.specs.TakingEdits.{answer_given, left_to, refused_or}
 use Rattle.doc_hub_replies.specs.Answers.{answer_by, answer_of, asks_for_style, browsed, dress_by, dress_for, edited_or, is_for_people}
 use Rattle.doc_hub_replies.specs.Answers.{kept_from_guests}
 use Rattle.doc_hub_replies.specs.Answers.{media_or, people_answer, style_answer, unedited}
 use Rattle.doc_people.specs.declared.settings.Browse.{Browse}
 use Rattle.doc_people.specs.declared.settings.Settings.{Settings}
-use Rattle.doc_hub.specs.StepLaws.{AgreeOn, AnswersAlike, StepsAlike, connection, is_owners_put, open_with}
+use Rattle.doc_hub.specs.StepLaws.{Agree, AgreeOn, AnswersAlike, NewReadersAlike, StepsAlike, connection, is_owners_put, open_with}
 use Rattle.doc_hub.specs.Worlds.{World, Steps, StepsAt, asking_of, reader_of, stepped_by, step_said}
 use Rattle.doc_hub.proofs.EditingAlike.{edit_response_alike}
+use Rattle.doc_hub.proofs.KindSteps.{leaves_all_but_readers}
 
 -- ---- a PUT of an owner alone asks whether a put is taken
 
@@ -155,6 +159,13 @@ module _ (render : Renders) (view : View) (beside : Beside) (left other : Bool) 
       let found : Option MediaResponse = media_response settings.browse render view beside asking (is_for_people request) request in
       ap (media_or found (dress_by settings.browse asking) close request) (same_by settings.browse asking close same)
 
+  given_alike : (settings : Settings) (asking : Asking) → (is_owners_put (row_of asking) request ≡ true → left ≡ other)
+      → answer_given settings render view beside asking left request ≡ answer_given settings render view beside asking other request
+  unfolding answer_given
+  given_alike settings asking same =
+      ap (refused_or (left_to settings asking request) (dress_by settings.browse asking) (closes_after settings request) request)
+      (asks_of_puts settings asking same)
+
 -- ---- answers and steps
 
 -- the media beside a view are those that are seen
@@ -172,12 +183,28 @@ same_beside media others reader another same =
 pub answers_alike : AnswersAlike
 answers_alike render w v request agree =
     let beside = same_beside w.media v.media (reader_of w request) (reader_of v request) agree.beside in
-    asks_of_puts render (view_of w.site (reader_of w request)) (beside_of w.media (reader_of w request)) (puts_taken w.takes_puts w.puts)
+    given_alike render (view_of w.site (reader_of w request)) (beside_of w.media (reader_of w request)) (puts_taken w.takes_puts w.puts)
     (puts_taken v.takes_puts v.puts)
     request w.settings (asking_of w request) agree.puts
-    ∙ (λ i. answer_of (agree.settings i) render
+    ∙ (λ i. answer_given (agree.settings i) render
     (record { pages = map.entries (agree.sites i).pages; aliases = map.entries (agree.sites i).aliases })
     (beside i) (agree.asking i) (puts_taken v.takes_puts v.puts) request)
+
+-- other readers, of whom who asks is found as before
+alike_by_readers : (render : Renders) (w v : World) (request : Request) → v ≡ record w { readers = v.readers }
+    → asking_of w request ≡ asking_of v request → Agree w v request
+alike_by_readers render w v request same asking = record {
+  settings = sym (ap (λ (x : World). x.settings) same);
+  asking = asking;
+  sites = λ i. visible_to (ap (λ (x : World). x.site) (sym same) i) (row_of (asking i));
+  beside = λ i. media_visible_to (ap (λ (x : World). x.media) (sym same) i) (row_of (asking i));
+  puts = λ owns. λ i. puts_taken (ap (λ (x : World). x.takes_puts) (sym same) i) (ap (λ (x : World). x.puts) (sym same) i);
+}
+
+pub new_readers_alike : NewReadersAlike
+new_readers_alike render w v readers request h asking =
+    answers_alike render w v request
+    (alike_by_readers render w v request (leaves_all_but_readers w v (reader_edits.All readers) (Ok tt) h) asking)
 
 -- what a step answers, by what the unread bytes begin with
 pub said_alike : (render : Renders) (w v : World) (c d : ℕ) (one other : Connection) (next : Next) → AgreeOn w v next

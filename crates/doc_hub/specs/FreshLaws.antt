@@ -5,7 +5,7 @@ use Rattle.doc_store_readers.specs.declared.reader.Reader.{Reader}
 use Rattle.doc_store_readers.specs.Sites.{Site, empty_site}
 use Rattle.doc_media.specs.Media.{Media}
 use Rattle.doc_store.specs.Store.{put_limit}
-use Rattle.doc_store_readers.specs.Readers.{ReaderTable}
+use Rattle.doc_store_readers.specs.Readers.{ReaderTable, no_readers, with_reader}
 use Rattle.doc_hub_asking.specs.Asking.{known_of}
 use Rattle.doc_people.specs.declared.settings.Settings.{Settings}
 use Rattle.doc_http.specs.Requests.{IsNext}
@@ -29,8 +29,8 @@ use Rattle.doc_hub.specs.Worlds.{World, asking_of, new_world, reader_of, token_o
 
 -- that reader's entry alone, or none
 abbrev pub only_reader : Option (List ℕ) → Option Reader → ReaderTable
-only_reader (Some token) (Some reader) = map.insert map.empty token reader
-only_reader token reader = map.empty
+only_reader (Some token) (Some reader) = with_reader no_readers token reader
+only_reader token reader = no_readers
 
 -- a server that takes puts and holds only this site with these media, after so many puts and moves, and this reader, with one connection
 abbrev pub fresh : ℕ → Site → Media → Option (List ℕ) → Option Reader → Settings → List ℕ → World

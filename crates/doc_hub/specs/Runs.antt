@@ -8,7 +8,7 @@ use Rattle.doc_store.specs.declared.store.EditError.TheVariants as edit_errors
 use Rattle.doc_hub_events.specs.Events.{Said, SaidOn, SaidReader, SaidSite, outcome_of}
 use Rattle.doc_hub_answers.specs.Replies.{Renders}
 use Rattle.doc_hub.specs.Worlds.{World, connected, world_pushed, disconnected, world_put, world_removed, world_moved, world_reader_set}
-use Rattle.doc_hub.specs.Worlds.{world_reader_removed, world_taking, Steps}
+use Rattle.doc_hub.specs.Worlds.{world_reader_removed, world_readers_set, world_taking, Steps}
 use Rattle.doc_store.specs.declared.site_edit.SiteEdit.{SiteEdit}
 use Rattle.doc_store.specs.declared.site_edit.SiteEdit.TheVariants as site_edits
 use Rattle.doc_hub_events.specs.declared.event.ConnectionEvent.{ConnectionEvent}
@@ -39,6 +39,7 @@ HappensSite w (site_edits.Move from to) v said = Gives move_errors.Memory (world
 abbrev pub HappensReader : World → (edit : ReaderEdit) → World → SaidReader edit → Type 0
 HappensReader w (reader_edits.Set token reader) v said = Gives reader_errors.Memory (world_reader_set w token reader) w v said
 HappensReader w (reader_edits.Remove token) v said = ◌≡◌ {A = World × Bool} (world_reader_removed w token) (v, said)
+HappensReader w (reader_edits.All readers) v said = Gives reader_errors.Memory (world_readers_set w readers) w v said
 
 -- The call of the event leaves this world and answers so, or memory ran out and the world is as before.
 abbrev pub Happens : Renders → World → (event : Event) → World → Said event → Type 0

@@ -38,6 +38,11 @@ TellsAt render w (Some c) edit =
 abbrev pub StepTells : Renders → World → ℕ → Option Edit → Type 0
 StepTells render w id edit = TellsAt render w (map.get w.connections id) edit
 
+-- where no edits are taken, no step makes one
+abbrev pub NoStepEdits : Type 0
+NoStepEdits =
+    (render : Renders) (w : World) (id : ℕ) (edit : Option Edit) → w.settings.takes_edits ≡ false → StepTells render w id edit → edit ≡ None
+
 -- ---- what it changes
 
 -- a page for these groups that fits was put under the path, which is no medium's, where it stands then

@@ -2,6 +2,7 @@
 use Rattle.std.specs.Prelude.{◌≡◌, ℕ, List, Bool, true, false, ◌&&◌, bytes_eq, codes, Option, Some, None, Ok, ⊤}
 use Rattle.std.specs.FinMap as map
 use Rattle.doc_store_readers.specs.declared.reader.Reader.{Reader}
+use Rattle.doc_store_readers.specs.Readers.{ReaderTable}
 use Rattle.doc_store_readers.specs.Sites.{Site, visible_to}
 use Rattle.doc_media.specs.Media.{Media, media_visible_to}
 use Rattle.doc_http.specs.Requests.{IsNext}
@@ -10,6 +11,8 @@ use Rattle.doc_http.specs.declared.request.Next.{Next}
 use Rattle.doc_http.specs.declared.request.Next.TheVariants as nexts
 use Rattle.doc_hub.specs.declared.connection.Connection.{Connection}
 use Rattle.doc_hub_events.specs.declared.event.ConnId.{ConnId}
+use Rattle.doc_hub_events.specs.declared.event.Event.TheVariants as events
+use Rattle.doc_hub_events.specs.declared.event.ReaderEdit.TheVariants as reader_edits
 use Rattle.doc_hub_events.specs.Events.{step_on}
 use Rattle.doc_hub_events.specs.declared.event.Step.{Step}
 use Rattle.doc_hub_answers.specs.Edits.{puts_taken}
@@ -47,6 +50,13 @@ AgreeOn w v next = ⊤
 -- worlds that are alike for a request answer it alike, with the same edit
 abbrev pub AnswersAlike : Type 0
 AnswersAlike = (render : Renders) (w v : World) (request : Request) → Agree w v request
+    → answer_in render w request ≡ answer_in render v request
+
+-- where all readers are set anew, a request of whoever asks by the new ones as by the old ones is answered as before
+abbrev pub NewReadersAlike : Type 0
+NewReadersAlike =
+    (render : Renders) (w v : World) (readers : ReaderTable) (request : Request)
+    → Happens render w (events.Reader (reader_edits.All readers)) v (Ok tt) → asking_of w request ≡ asking_of v request
     → answer_in render w request ≡ answer_in render v request
 
 abbrev pub connection : ℕ → World → Option Connection

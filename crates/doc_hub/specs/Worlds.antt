@@ -1,13 +1,13 @@
 -- The world that a hub stands for, and one function of it for each call.
 use Rattle.std.specs.Prelude.{◌≡◌, ℕ, List, ◌+◌, ◌^◌, ◌-◌, Bool, true, nat_lt, nat_le, ◌&&◌, ◌||◌, false, MatchBool, Option, Some, None}
-use Rattle.std.specs.Prelude.{option_map, Result, Ok, Err, if◌then◌else◌, refl}
+use Rattle.std.specs.Prelude.{is_some, option_map, Result, Ok, Err, if◌then◌else◌, refl}
 use Rattle.std.specs.Coded.{Coded, code_by, coded×, coded_bool, coded_list, coded_option, coded_ℕ}
 use Rattle.std.specs.FinMap as map
 use Rattle.doc_store_readers.specs.declared.reader.Reader.{Reader}
 use Rattle.doc_store_readers.specs.Pages.{page_code}
 use Rattle.doc_store_readers.specs.Sites.{Site, empty_site, site_code, view_of}
 use Rattle.doc_media.specs.Media.{Media, beside_of}
-use Rattle.doc_store_readers.specs.Readers.{ReaderTable, set_reader}
+use Rattle.doc_store_readers.specs.Readers.{ReaderTable, find_in, set_reader, without_reader}
 use Rattle.doc_store.specs.Store.{StoreState, aliases_after, fits_in, move_fits, moved_by, put_by, without_page}
 use Rattle.doc_store.specs.declared.moving.MoveError.{MoveError}
 use Rattle.doc_store_readers.specs.declared.readers.ReaderError.{ReaderError}
@@ -25,7 +25,7 @@ use Rattle.doc_hub.specs.Connections.{Connections, new_connection, pushed, finis
 use Rattle.doc_hub_answers.specs.Edits.{puts_taken, store_after}
 use Rattle.doc_hub_answers.specs.Replies.{Renders, fault_bytes}
 use Rattle.doc_hub_asking.specs.Asking.{Asking, login_of, reader_asking, row_of}
-use Rattle.doc_hub_replies.specs.Answers.{answer_of}
+use Rattle.doc_hub_replies.specs.TakingEdits.{answer_given}
 use Rattle.doc_people.specs.declared.settings.Settings.{Settings}
 use Rattle.doc_hub_answers.specs.declared.answer.Answer.{Answer}
 use Rattle.doc_hub.specs.declared.connection.Connection.{Connection}
@@ -86,9 +86,9 @@ new_world readers settings media = record {
   connections = map.empty;
 }
 
--- the settings of a server without pages for people
+-- the settings of a server without pages for people, which takes edits
 abbrev pub plain_settings : Bool → Settings
-plain_settings keep_alive = record { keep_alive = keep_alive; browse = None }
+plain_settings keep_alive = record { keep_alive = keep_alive; takes_edits = true; browse = None }
 
 -- the capacities that a cache may have; this project's choice
 abbrev pub is_capacity : ℕ → Bool
@@ -136,7 +136,7 @@ reader_of w request = row_of (asking_of w request)
 -- the answer to a request, from what its reader may see of the site and of its media
 abbrev pub answer_in : Renders → World → Request → Answer
 answer_in render w request =
-    answer_of w.settings render (view_of w.site (reader_of w request)) (beside_of w.media (reader_of w request)) (asking_of w request)
+    answer_given w.settings render (view_of w.site (reader_of w request)) (beside_of w.media (reader_of w request)) (asking_of w request)
     (puts_taken w.takes_puts w.puts) request
 
 -- the world's site and puts as a store's, whose edits are the world's: which stamps its pages have changes nothing else, so they have none
@@ -235,7 +235,11 @@ world_reader_set w token reader = let r = set_reader w.readers token reader in (
 
 -- the reader of a token is removed, and whether there was one
 abbrev pub world_reader_removed : World → List ℕ → World × Bool
-world_reader_removed w token = (record w { readers = map.remove w.readers token }, map.contains_key w.readers token)
+world_reader_removed w token = (record w { readers = without_reader w.readers token }, is_some (find_in w.readers token))
+
+-- the readers are these, and no others
+abbrev pub world_readers_set : World → ReaderTable → World × Result (Unit {0}) ReaderError
+world_readers_set w readers = (record w { readers = readers }, Ok tt)
 
 -- from here on owners' puts are taken, or none is
 abbrev pub world_taking : World → Bool → World
@@ -246,4 +250,4 @@ world_taking w takes = record w { takes_puts = takes }
 -- the broken links of what the reader of a token sees, where there is such a reader: as lines of text
 abbrev pub report_in : Renders → World → List ℕ → Option (List ℕ)
 report_in render w token =
-    option_map (λ reader. report_body render (view_of w.site (Some reader)) (beside_of w.media (Some reader))) (map.get w.readers token)
+    option_map (λ reader. report_body render (view_of w.site (Some reader)) (beside_of w.media (Some reader))) (find_in w.readers token)

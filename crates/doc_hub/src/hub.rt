@@ -10,7 +10,7 @@
 //! 3. The edit is made. Where it finds no memory the reply is dropped, and the request waits.
 //! 4. The bytes of the request are taken, and the connection closes or not; that takes no memory.
 
-ghost use Rattle.std.specs.Prelude.{◌≡◌, ◌+◌, ◌&&◌, false, None, IfOk, option_copied, option_map};
+ghost use Rattle.std.specs.Prelude.{◌≡◌, ◌+◌, ◌&&◌, false, None, Ok, IfOk, option_copied, option_map};
 ghost use Rattle.std.specs.FinMap as map;
 ghost use Rattle.std.specs.List.{list_any};
 ghost use Rattle.doc_page_parts.specs.Refusals.{IsAnswer};
@@ -130,6 +130,7 @@ impl<R: Renderer + Drop> Hub<R> {
     {
         let settings = Settings {
             keep_alive,
+            takes_edits: true,
             browse: None,
         };
         Hub::with_settings(heap, renderer, readers, settings, cache)
@@ -388,6 +389,28 @@ impl<R: Renderer + Drop> Hub<R> {
         self.readers.remove(token)
     }
 
+    /// Sets the readers, all at once: nobody is found but by these from here on. It takes no memory, and isn't refused.
+    pub fn set_readers(&mut self, readers: Readers)
+        ensures world { Happens (R.page self.old.0) self.old.1
+            (Event.Reader (ReaderEdit.All readers)) self.new.1 (Ok tt) }
+        ensures same { R.page self.new.0 ≡ R.page self.old.0 }
+        ensures counted { R.count self.new.0 ≡ R.count self.old.0 }
+    {
+        self.readers = readers;
+    }
+
+    /// The same with a copy of these readers. `Memory` says that there was no room for one: then nothing changes.
+    fn set_copies(&mut self, readers: &Readers) -> Result<(), ReaderError>
+        ensures world { Happens (R.page self.old.0) self.old.1
+            (Event.Reader (ReaderEdit.All readers.now)) self.new.1 result }
+        ensures same { R.page self.new.0 ≡ R.page self.old.0 }
+        ensures counted { R.count self.new.0 ≡ R.count self.old.0 }
+    {
+        let copies = readers.copy(self.heap)?;
+        self.set_readers(copies);
+        Ok(())
+    }
+
     /// Whether owners' puts are taken from here on, with the moves and the changes of groups that ask for a stamp as they do. Where they
     /// aren't, each is answered as by a store that takes no more; all else is answered as ever. It takes no memory.
     pub fn take_puts(&mut self, takes: bool)
@@ -492,6 +515,7 @@ impl<R: Renderer + Drop> Hub<R> {
         match edit {
             ReaderEdit::Set(token, reader) => Outcome::from(self.set_reader(token.get(), reader)),
             ReaderEdit::Remove(token) => Outcome::ReaderRemoved(self.remove_reader(token.get())),
+            ReaderEdit::All(readers) => Outcome::from(self.set_copies(readers)),
         }
     }
 }

@@ -11,8 +11,8 @@ ghost use Rattle.doc_hub.specs.HiddenLaws.{HiddenAsNone, HiddenMediumAsNone, Lin
 ghost use Rattle.doc_hub.specs.MadeLaws.{FreshIsMade, MadeReplies};
 ghost use Rattle.doc_hub.specs.MediaLaws.{MediaStandApart};
 ghost use Rattle.doc_hub.specs.RunLaws.{RunsAlike};
-ghost use Rattle.doc_hub.specs.StepEdits.{StepsChange};
-ghost use Rattle.doc_hub.specs.StepLaws.{AnswersAlike, StepsAlike};
+ghost use Rattle.doc_hub.specs.StepEdits.{NoStepEdits, StepsChange};
+ghost use Rattle.doc_hub.specs.StepLaws.{AnswersAlike, NewReadersAlike, StepsAlike};
 
 /// A request has one answer, with one edit, in two worlds with the same settings, the same who asks (nobody,
 /// a guest, or a reader of one entry), and one view and the same media for them; and, where it is a PUT of an
@@ -20,6 +20,13 @@ ghost use Rattle.doc_hub.specs.StepLaws.{AnswersAlike, StepsAlike};
 #[tactic(auto, using(crate::proofs::StepLaws::answers_alike))]
 pub fn answers_are_noninterfering()
     ensures { AnswersAlike }
+{}
+
+/// Readers that are set anew, all at once, change no reply to whoever is found by the new ones as by the old ones: the same reader, or
+/// nobody.
+#[tactic(auto, using(crate::proofs::StepLaws::new_readers_alike))]
+pub fn new_readers_change_nothing_for_others()
+    ensures { NewReadersAlike }
 {}
 
 /// A hidden page is answered exactly as a page that doesn't exist: each request of a reader who doesn't see
@@ -158,6 +165,12 @@ pub fn the_site_is_the_effect_of_the_edits()
 #[tactic(auto, using(crate::proofs::StepEdits::steps_change))]
 pub fn a_step_makes_the_edit_that_it_tells()
     ensures { StepsChange }
+{}
+
+/// Where no edits are taken, no step makes one.
+#[tactic(auto, using(crate::proofs::StepEdits::no_step_edits))]
+pub fn no_step_edits_where_no_edits_are_taken()
+    ensures { NoStepEdits }
 {}
 
 /// No update is lost. In any run, whatever stands between, an edit whose request named tags by If-Match is of a

@@ -1,8 +1,7 @@
 -- What is said of answers as they are made.
 use Rattle.std.specs.Prelude.{◌≡◌, ℕ, List, Option, Some, option_and_then, Result, Ok, Err}
-use Rattle.std.specs.FinMap as map
 use Rattle.doc_page_parts.specs.declared.failure.Memory.{Memory}
-use Rattle.doc_store_readers.specs.Readers.{ReaderTable}
+use Rattle.doc_store_readers.specs.Readers.{ReaderTable, find_in}
 use Rattle.doc_store.specs.Store.{StoreState}
 use Rattle.doc_store_readers.specs.declared.reader.Reader.{Reader}
 use Rattle.doc_http.specs.Bearers.{bearer_of}
@@ -17,7 +16,7 @@ use Rattle.doc_hub_answers.specs.Replies.{Response}
 
 -- the entry of a request's token
 abbrev pub entry_of : ReaderTable → Request → Option Reader
-entry_of readers request = option_and_then (map.get readers) (bearer_of request)
+entry_of readers request = option_and_then (find_in readers) (bearer_of request)
 
 -- a response as it is sent in an exchange
 abbrev pub sent_in : Exchange → Response → Answer

@@ -1,24 +1,23 @@
 -- The reader whom a field names.
 use Rattle.std.proofs.Common.{◌≡◌, ℕ, Bool, true, false, List, ap, sym, ◌∙◌}
 use Rattle.std.specs.Prelude.{Option, Some, None, if◌then◌else◌}
-use Rattle.std.specs.FinMap as map
 use Rattle.std.specs.Option.{option_and_then}
 use Rattle.doc_http.specs.Bearers.{bearer_in, bearer_of}
 use Rattle.doc_http.specs.Passwords.{or_password, password_in, token_in}
 use Rattle.doc_http.specs.declared.request.Request.{Request}
-use Rattle.doc_store_readers.specs.Readers.{ReaderTable}
+use Rattle.doc_store_readers.specs.Readers.{ReaderTable, find_in}
 use Rattle.doc_store_readers.specs.declared.reader.Reader.{Reader}
 
 module _ (readers : ReaderTable) (login : Bool) (request : Request) (value : List ℕ) (field : request.authorization ≡ Some value) where
   abbrev named : Option (List ℕ) → Option Reader
-  named token = option_and_then (map.get readers) token
+  named token = option_and_then (find_in readers) token
 
   bearer_there : (token : Option (List ℕ)) → token ≡ bearer_of request → bearer_in (Some value) ≡ token
   unfolding bearer_of
   bearer_there token is = sym (ap bearer_in field) ∙ sym is
 
   -- by a bearer's token
-  pub by_bearer : (token : List ℕ) (found : Option Reader) → Some token ≡ bearer_of request → found ≡ map.get readers token
+  pub by_bearer : (token : List ℕ) (found : Option Reader) → Some token ≡ bearer_of request → found ≡ find_in readers token
       → found ≡ named (token_in login (Some value))
   by_bearer token found is finds = finds ∙ sym (ap (λ b. named (or_password login value b)) (bearer_there (Some token) is))
 

@@ -1,11 +1,10 @@
 -- Who asks: by the settings, the readers, and the Authorization field of the request (RFC 9110, section 11.6.2), of which it has one or
 -- none. All of this is this project's choice.
 use Rattle.std.specs.Prelude.{ℕ, List, Bool, true, false, Option, Some, None, option_and_then}
-use Rattle.std.specs.FinMap as map
 use Rattle.doc_http.specs.Passwords.{token_in}
 use Rattle.doc_http.specs.declared.request.Request.{Request}
 use Rattle.doc_people.specs.declared.settings.Browse.{Browse}
-use Rattle.doc_store_readers.specs.Readers.{ReaderTable}
+use Rattle.doc_store_readers.specs.Readers.{ReaderTable, find_in}
 use Rattle.doc_store_readers.specs.declared.reader.Reader.{Reader}
 
 -- nobody who may read; a guest, who comes without a field; or the reader whose token the field has
@@ -54,7 +53,7 @@ known_by (Some row) = Known row
 
 abbrev pub asking_by : Option (List (List ℕ)) → Bool → ReaderTable → Option (List ℕ) → Asking
 asking_by guest login readers None = guest_by guest
-asking_by guest login readers (Some value) = known_by (option_and_then (map.get readers) (token_in login (Some value)))
+asking_by guest login readers (Some value) = known_by (option_and_then (find_in readers) (token_in login (Some value)))
 
 -- the groups of guests
 abbrev pub guest_of : Option Browse → Option (List (List ℕ))

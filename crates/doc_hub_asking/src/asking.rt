@@ -1,10 +1,10 @@
 //! Who asks.
 
 ghost use Rattle.std.specs.Prelude.{◌≡◌, IfOk, Some, option_and_then, option_copied};
-ghost use Rattle.std.specs.FinMap as map;
 ghost use Rattle.doc_http.specs.Passwords.{password_in, token_in};
 ghost use Rattle.doc_hub_asking.specs.Asking.{guest_by, is_guest, known_by, owns, reader_asking, row_of};
 ghost use Rattle.doc_hub_asking.specs.AskingSteps.{asking_shown};
+ghost use Rattle.doc_store_readers.specs.Readers.{find_in};
 
 use doc_http::bearer::bearer;
 use doc_http::password::password;
@@ -107,7 +107,7 @@ fn reader_by<'a>(
 ) -> Result<Option<&'a Reader>, Memory>
     requires { request.now.authorization ≡ Some value.now }
     ensures { IfOk result (λ reader. option_copied reader
-        ≡ option_and_then (map.get readers.now) (token_in browse.now.login (Some value.now))) }
+        ≡ option_and_then (find_in readers.now) (token_in browse.now.login (Some value.now))) }
 {
     if let Some(token) = bearer(request) {
         return Ok(readers.find(token));
@@ -125,7 +125,7 @@ fn reader_by_password<'a>(
     value: &Bytes,
 ) -> Result<Option<&'a Reader>, Memory>
     ensures { IfOk result (λ reader. option_copied reader
-        ≡ option_and_then (map.get readers.now) (password_in value.now)) }
+        ≡ option_and_then (find_in readers.now) (password_in value.now)) }
 {
     match password(heap, value.get())? {
         Some(token) => Ok(readers.find(token.get())),

@@ -54,6 +54,7 @@ SaidSite (site_edits.Move from to) = Result (Unit {0}) MoveError
 abbrev pub SaidReader : ReaderEdit → Type 0
 SaidReader (reader_edits.Set token reader) = Result Set ReaderError
 SaidReader (reader_edits.Remove token) = Bool
+SaidReader (reader_edits.All readers) = Result (Unit {0}) ReaderError
 
 abbrev pub Said : Event → Type 0
 Said events.Connect = Result ConnId ConnectError
@@ -120,6 +121,10 @@ abbrev pub setting : Result Set ReaderError → Outcome
 setting (Ok done) = outcomes.ReaderSet done
 setting (Err e) = outcomes.Refused (reader_refusal e)
 
+abbrev pub setting_all : Result (Unit {0}) ReaderError → Outcome
+setting_all (Ok done) = outcomes.ReadersSet
+setting_all (Err e) = outcomes.Refused (reader_refusal e)
+
 abbrev pub outcome_on : (call : ConnectionEvent) → SaidOn call → Outcome
 outcome_on (calls.Push bytes) said = pushing said
 outcome_on calls.Step said = stepping said
@@ -133,6 +138,7 @@ outcome_of_site (site_edits.Move from to) said = moving said
 abbrev pub outcome_of_reader : (edit : ReaderEdit) → SaidReader edit → Outcome
 outcome_of_reader (reader_edits.Set token reader) said = setting said
 outcome_of_reader (reader_edits.Remove token) said = outcomes.ReaderRemoved said
+outcome_of_reader (reader_edits.All readers) said = setting_all said
 
 -- what a call answered, as a run tells it
 abbrev pub outcome_of : (event : Event) → Said event → Outcome

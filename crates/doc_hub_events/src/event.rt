@@ -3,6 +3,7 @@
 use doc_page_parts::bytes::Bytes;
 use doc_page_parts::text::Text;
 use doc_store::reader::Reader;
+use doc_store::readers::Readers;
 use doc_store::site_edit::SiteEdit;
 
 /// The number of a connection. The first one given is 1, and none is given twice.
@@ -23,7 +24,7 @@ pub enum Step {
 }
 
 /// A call of a hub, with all that it takes: by its flat name one of Connect, Push, Step, Disconnect, Put,
-/// Remove, MovePage, SetReader, RemoveReader and TakePuts.
+/// Remove, MovePage, SetReader, RemoveReader, SetReaders and TakePuts.
 #[derive(Debug, Drop)]
 pub enum Event {
     Connect,
@@ -31,7 +32,7 @@ pub enum Event {
     On(ConnId, ConnectionEvent),
     /// Put, Remove or MovePage.
     Site(SiteEdit),
-    /// SetReader or RemoveReader.
+    /// SetReader, RemoveReader or SetReaders.
     Reader(ReaderEdit),
     /// From here on owners' puts are taken, or none is. It is the server's own: no script writes it.
     TakePuts(bool),
@@ -53,4 +54,6 @@ pub enum ReaderEdit {
     Set(Text, Reader),
     /// The token's reader is removed.
     Remove(Text),
+    /// The readers are these, and no others. It is the server's own: no script writes it.
+    All(Readers),
 }

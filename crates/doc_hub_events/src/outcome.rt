@@ -1,7 +1,7 @@
 //! What comes of events.
 
 ghost use Rattle.std.specs.Prelude.{◌≡◌};
-ghost use Rattle.doc_hub_events.specs.Events.{connecting, pushing, stepping, putting, moving, setting};
+ghost use Rattle.doc_hub_events.specs.Events.{connecting, pushing, stepping, putting, moving, setting, setting_all};
 
 use crate::event::{ConnId, Step};
 use crate::refusal::{ConnectError, PushError, Refusal, StepError};
@@ -24,6 +24,8 @@ pub enum Outcome {
     ReaderSet(Set),
     /// Whether the token had a reader.
     ReaderRemoved(bool),
+    /// The readers are others.
+    ReadersSet,
     /// Puts are taken from here on, or none is.
     PutsSet,
     /// The event did nothing.
@@ -91,6 +93,17 @@ impl From<Result<Set, ReaderError>> for Outcome {
     fn from(said: Result<Set, ReaderError>) -> Outcome {
         match said {
             Ok(set) => Outcome::ReaderSet(set),
+            Err(error) => Outcome::Refused(Refusal::from(error)),
+        }
+    }
+}
+
+impl From<Result<(), ReaderError>> for Outcome {
+    ghost from_gives = { λ said outcome. outcome ≡ setting_all said };
+
+    fn from(said: Result<(), ReaderError>) -> Outcome {
+        match said {
+            Ok(()) => Outcome::ReadersSet,
             Err(error) => Outcome::Refused(Refusal::from(error)),
         }
     }

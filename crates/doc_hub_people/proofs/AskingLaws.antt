@@ -1,7 +1,6 @@
 -- Laws of who asks.
 use Rattle.std.proofs.Common.{◌≡◌, ℕ, ◌+◌, ◌<◌, ◌∷◌, [], ◌++◌, Bool, true, false, cond, List, length, ap, refl, sym, subst, ◌∙◌, drop, arith}
 use Rattle.std.specs.Prelude.{◌==◌, ◌&&◌, codes, nat_lt, position, take, Option, Some, None}
-use Rattle.std.specs.FinMap as map
 use Rattle.std.specs.List.{list_all, prefix_len}
 use Rattle.std.specs.Option.{option_and_then}
 use Rattle.std.proofs.lemmas.Bool.{and_parts, lt-ltb}
@@ -11,7 +10,7 @@ use Rattle.base64.specs.GeneralPurpose.{decoded_of}
 use Rattle.doc_http.specs.Bearers.{bearer_in, bearer_of, credentials_at, skip_spaces, token_behind}
 use Rattle.doc_http.specs.Passwords.{basic_text, is_user, or_password, password_at, password_in, password_of, token_in}
 use Rattle.doc_page_parts.specs.Tokens.{is_token, is_token_byte}
-use Rattle.doc_store_readers.specs.Readers.{ReaderTable}
+use Rattle.doc_store_readers.specs.Readers.{ReaderTable, find_in}
 use Rattle.doc_store_readers.specs.declared.reader.Reader.{Reader}
 use Rattle.doc_hub_asking.specs.Asking.{asking_by, guest_of, is_guest, known_by, login_of}
 use Rattle.doc_hub_people.specs.Laws.{BasicIsBearer, BearersAloneAreKnown, FieldsAreNeverGuests, GuestsDependOnNoReaders, GuestsOwnNothing, IsNoGuest, OwnsNothing}
@@ -26,7 +25,7 @@ no_guest_by : (guest : Option (List (List ℕ))) (login : Bool) (readers : Reade
     → field ≡ Some value → IsNoGuest (asking_by guest login readers field)
 no_guest_by guest login readers value None is = cc
 no_guest_by guest login readers value (Some other) is =
-    known_is_no_guest (option_and_then (map.get readers) (token_in login (Some other)))
+    known_is_no_guest (option_and_then (find_in readers) (token_in login (Some other)))
 
 pub fields_are_never_guests : FieldsAreNeverGuests
 fields_are_never_guests browse readers request value is =
@@ -41,7 +40,7 @@ guest_by_all : (guest : Option (List (List ℕ))) (login : Bool) (readers others
     → asking_by guest login readers field ≡ asking_by guest login others field
 guest_by_all guest login readers others None is = refl
 guest_by_all guest login readers others (Some value) is =
-    absurd (known_is_guest (option_and_then (map.get readers) (token_in login (Some value))) is)
+    absurd (known_is_guest (option_and_then (find_in readers) (token_in login (Some value))) is)
 
 pub guests_depend_on_no_readers : GuestsDependOnNoReaders
 guests_depend_on_no_readers browse readers others request is =
@@ -56,7 +55,7 @@ owns_nothing_by : (guest : Option (List (List ℕ))) (login : Bool) (readers : R
 owns_nothing_by None login readers None = tt
 owns_nothing_by (Some groups) login readers None = refl
 owns_nothing_by guest login readers (Some value) =
-    known_owns_nothing (option_and_then (map.get readers) (token_in login (Some value)))
+    known_owns_nothing (option_and_then (find_in readers) (token_in login (Some value)))
 
 pub guests_own_nothing : GuestsOwnNothing
 guests_own_nothing browse readers request = owns_nothing_by (guest_of browse) (login_of browse) readers request.authorization
@@ -68,10 +67,10 @@ without_password value None = refl
 without_password value (Some token) = refl
 
 alone : (readers : ReaderTable) (field : Option (List ℕ))
-    → asking_by None false readers field ≡ known_by (option_and_then (map.get readers) (bearer_in field))
+    → asking_by None false readers field ≡ known_by (option_and_then (find_in readers) (bearer_in field))
 alone readers None = refl
 alone readers (Some value) =
-    ap (λ token. known_by (option_and_then (map.get readers) token)) (without_password value (bearer_in (Some value)))
+    ap (λ token. known_by (option_and_then (find_in readers) token)) (without_password value (bearer_in (Some value)))
 
 pub bearers_alone_are_known : BearersAloneAreKnown
 unfolding bearer_of
@@ -129,7 +128,7 @@ of_bytes (Some bytes) token is = password_is_token bytes token (position (λ b. 
 pub basic_is_bearer : BasicIsBearer
 unfolding password_in
 basic_is_bearer guest login readers value token is other =
-    let found = λ (t : Option (List ℕ)). known_by (option_and_then (map.get readers) t) in
+    let found = λ (t : Option (List ℕ)). known_by (option_and_then (find_in readers) t) in
     let good = of_bytes (option_and_then (decoded_of standard) (basic_text value)) token is in
     ap (λ b. found (or_password true value b)) other ∙ ap found is
     ∙ sym (ap (λ b. found (or_password login (codes "Bearer " ++ token) b)) (bearer_behind token good))

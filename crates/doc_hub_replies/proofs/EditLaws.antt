@@ -179,7 +179,7 @@ module _ (render : Renders) (browse : Browse) (offers : Offers) (view : View) wh
   open_alone : (people : Bool) (rest : List ℕ) → (open_form render browse offers view people rest).edit ≡ None
   open_alone people rest = open_by people (begins_path rest) (folder_begun rest) (path_written rest)
 
-  owner_alone : (beside : Beside) (left people : Bool) (request : Request) (what : EditRequest) → Reads what
+  pub owner_alone : (beside : Beside) (left people : Bool) (request : Request) (what : EditRequest) → Reads what
       → (by_owner render browse offers view beside left people request what).edit ≡ None
   owner_alone beside left people request (requests.ReadSource rest) read = read_alone view (path_written rest) request
   owner_alone beside left people request (requests.PutSource rest) read = absurd read
@@ -200,7 +200,7 @@ module _ (render : Renders) (browse : Browse) (offers : Offers) (view : View) wh
   forbidden_alone false (requests.Open rest) = refl
   forbidden_alone people what = refl
 
-  other_alone : (guest people : Bool) (what : EditRequest) → (by_other render browse offers view guest people what).edit ≡ None
+  pub other_alone : (guest people : Bool) (what : EditRequest) → (by_other render browse offers view guest people what).edit ≡ None
   other_alone guest people (requests.NotAllowed resource) = refl
   other_alone true people what = unauthorized_alone people
   other_alone false people what = forbidden_alone people what

@@ -94,10 +94,10 @@ where_edited = record {
 }
 
 abbrev without_pages_for_people : Settings
-without_pages_for_people = record { keep_alive = true; browse = None }
+without_pages_for_people = record { keep_alive = true; takes_edits = true; browse = None }
 
 abbrev with_editing : Settings
-with_editing = record { keep_alive = true; browse = Some where_edited }
+with_editing = record { keep_alive = true; takes_edits = true; browse = Some where_edited }
 
 abbrev a_request : List ℕ → List ℕ → Request
 a_request method target = record {

@@ -17,6 +17,7 @@ use Rattle.doc_hub_media.specs.MediaAnswers.{media_response}
 use Rattle.doc_hub_replies.specs.Answers.{answer_by, answer_of, asks_for_style, dress_for, is_for_people, kept_from_guests}
 use Rattle.doc_hub_replies.specs.Answers.{style_answer, unedited}
 use Rattle.doc_hub_replies.specs.ServingSteps.{closes_after}
+use Rattle.doc_hub_replies.specs.TakingEdits.{answer_given}
 
 -- the answer to whoever asks, of a site and its media
 abbrev pub answer_in : Settings → Renders → Site → Media → ReaderTable → Bool → Request → Answer
@@ -94,3 +95,16 @@ UnauthorizedIsAlike =
     (request : Request)
     → answer_of settings render view beside asked.Nobody puts_left request
     ≡ answer_of settings other another aside asked.Nobody still_left request
+
+-- where edits are taken, each answer is as ever
+abbrev pub EditsChangeNothingElse : Type 0
+EditsChangeNothingElse =
+    (settings : Settings) (render : Renders) (view : View) (beside : Beside) (asking : Asking) (puts_left : Bool) (request : Request)
+    → settings.takes_edits ≡ true
+    → answer_given settings render view beside asking puts_left request ≡ answer_of settings render view beside asking puts_left request
+
+-- where no edits are taken, no answer has one
+abbrev pub NoEditIsMade : Type 0
+NoEditIsMade =
+    (settings : Settings) (render : Renders) (view : View) (beside : Beside) (asking : Asking) (puts_left : Bool) (request : Request)
+    → settings.takes_edits ≡ false → (answer_given settings render view beside asking puts_left request).edit ≡ None

@@ -1,6 +1,7 @@
 pub mod Answers
 pub mod Laws
 pub mod ServingSteps
+pub mod TakingEdits
 -- words of these definitions, for the crates above
 pub use Rattle.doc_hub_media.specs.PeopleAnswers
 pub use Rattle.doc_hub_media.specs.EditAnswers

@@ -78,7 +78,7 @@ impl Serving<'_> {
     }
 
     /// Who asks, by the settings.
-    fn asking(&self, request: &Request) -> Result<Asking<'_>, Memory>
+    pub(crate) fn asking(&self, request: &Request) -> Result<Asking<'_>, Memory>
         ensures { IfOk result (λ asking. asking_shown asking
             ≡ reader_asking self.now.settings.now.browse self.now.readers.now request.now) }
     {
@@ -89,7 +89,7 @@ impl Serving<'_> {
     }
 
     /// How the replies to who asks are written, by the settings.
-    fn manner_by(&self, request: &Request, asking: &Asking) -> Manner<'_>
+    pub(crate) fn manner_by(&self, request: &Request, asking: &Asking) -> Manner<'_>
         ensures dress { dress_of result
             ≡ dress_by self.now.settings.now.browse (asking_shown asking.now) }
         ensures head_only { result.head_only ≡ is_bare request.now.method }
@@ -102,7 +102,7 @@ impl Serving<'_> {
     }
 
     /// The settings for people, where there are some.
-    fn browse(&self) -> Option<&Browse>
+    pub(crate) fn browse(&self) -> Option<&Browse>
         ensures { option_copied result ≡ self.now.settings.now.browse }
     {
         match &self.settings.browse {

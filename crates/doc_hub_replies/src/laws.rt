@@ -1,6 +1,6 @@
 //! Laws of answers. The functions do nothing: their contracts are the laws.
 
-ghost use Rattle.doc_hub_replies.specs.Laws.{GuestsEditNothing, NothingChangesWithoutEditing, NothingChangesWithoutMedia, NothingChangesWithoutSettings, OnlyPeopleAreShownPages, PeopleEditNothing, UnauthorizedIsAlike};
+ghost use Rattle.doc_hub_replies.specs.Laws.{EditsChangeNothingElse, GuestsEditNothing, NoEditIsMade, NothingChangesWithoutEditing, NothingChangesWithoutMedia, NothingChangesWithoutSettings, OnlyPeopleAreShownPages, PeopleEditNothing, UnauthorizedIsAlike};
 
 /// Without media each answer is what it is by the pages alone.
 #[tactic(auto, using(crate::proofs::AnswerLaws::nothing_changes_without_media))]
@@ -43,4 +43,16 @@ pub fn guests_edit_nothing()
 #[tactic(auto, using(crate::proofs::AnswerLaws::unauthorized_is_alike))]
 pub fn unauthorized_is_alike()
     ensures { UnauthorizedIsAlike }
+{}
+
+/// Where edits are taken, each answer is as ever.
+#[tactic(auto, using(crate::proofs::TakingLaws::edits_change_nothing_else))]
+pub fn edits_change_nothing_else()
+    ensures { EditsChangeNothingElse }
+{}
+
+/// Where no edits are taken, no answer makes one.
+#[tactic(auto, using(crate::proofs::TakingLaws::no_edit_is_made))]
+pub fn no_edit_is_made()
+    ensures { NoEditIsMade }
 {}

@@ -10,3 +10,4 @@ mod asked;
 mod beside;
 pub mod laws;
 pub mod serving;
+mod taking;

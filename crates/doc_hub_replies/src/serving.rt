@@ -22,6 +22,7 @@ ghost use Rattle.doc_hub_media.specs.EditAnswers as edit_answers;
 ghost use Rattle.doc_hub_media.specs.EditResponses.{editing_answer};
 ghost use Rattle.doc_hub_replies.specs.Answers.{answer_by, answer_of, asks_preview, browsed, dress_for, is_for_people, kept_from_guests, people_answer, shows_preview, style_answer, unedited};
 ghost use Rattle.doc_hub_replies.specs.ServingSteps.{closes_after, edits_at, edits_page};
+ghost use Rattle.doc_hub_replies.specs.TakingEdits.{answer_given};
 
 use crate::asked::{asks_for_style, head_only, is_for_people};
 use doc_http::bearer::bearer;
@@ -65,11 +66,39 @@ pub struct Serving<'a> {
 }
 
 impl Serving<'_> {
-    /// The answer to a request, and the edit that it asks for, which is made. Where media have no part in it, with settings for people
-    /// the style sheet comes first, then who asks, then whether the request edits by these settings, then whether it is for
-    /// people. Refused are, in this order, who has no entry, what has no route, and what the method refuses. Where
-    /// memory runs out the pages are as they were.
+    /// The answer to a request, and the edit that it asks for, which is made. Where no edits are taken, whoever has an entry is
+    /// refused the methods that edit; all else is answered as ever. Where memory runs out the pages are as they were.
     pub fn answer<R: Renderer + Drop>(
+        &self,
+        shelf: &mut Shelf<R>,
+        request: &Request,
+    ) -> Result<Answer, Memory>
+        ensures answer { let asking = reader_asking self.now.settings.now.browse
+            self.now.readers.now request.now in
+            AnsweredSo request.now.body shelf.old.1
+            (answer_given self.now.settings.now (R.page shelf.old.0)
+            (view_of shelf.old.1.site (row_of asking))
+            (beside_of self.now.media.now (row_of asking)) asking
+            (puts_taken self.now.takes_puts shelf.old.1.puts) request.now) shelf.new.1 result }
+        ensures same { R.page shelf.new.0 ≡ R.page shelf.old.0 }
+        ensures counted { let asking = reader_asking self.now.settings.now.browse
+            self.now.readers.now request.now in
+            IfOk result (λ a. RendersPuts (R.count shelf.old.0) shelf.old.1.puts
+            (R.count shelf.new.0) shelf.new.1.puts (moves_of a.edit)
+            (previews_of (shows_preview self.now.settings.now.browse
+            (view_of shelf.old.1.site (row_of asking))
+            (beside_of self.now.media.now (row_of asking)) asking request.now))) }
+    {
+        match self.without_edits(request)? {
+            Some(answer) => Ok(answer),
+            None => self.with_edits(shelf, request),
+        }
+    }
+
+    /// The same where edits are taken. Where media have no part in it, with settings for people the style sheet comes first, then
+    /// who asks, then whether the request edits by these settings, then whether it is for people. Refused are, in this order,
+    /// who has no entry, what has no route, and what the method refuses.
+    fn with_edits<R: Renderer + Drop>(
         &self,
         shelf: &mut Shelf<R>,
         request: &Request,

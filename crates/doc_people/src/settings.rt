@@ -55,6 +55,8 @@ fn copied(heap: Heap, groups: Option<&Groups>) -> Result<Option<Groups>, Memory>
 pub struct Settings {
     /// Whether connections are kept after a reply.
     pub keep_alive: bool,
+    /// Whether pages are edited. Where they aren't, no resource has the methods that edit.
+    pub takes_edits: bool,
     /// The pages for people, where there are some.
     pub browse: Option<Browse>,
 }

@@ -12,11 +12,14 @@ use Rattle.doc_server_config.specs.declared.page_row.Source.TheVariants.{Text}
 
 -- an owner, a reader of the group `staff` and one of the group `ops`, by their tokens
 abbrev pub demo_readers : ReaderTable
-demo_readers = map.from_entries (
-    (codes "tok-owner", record { owner = true; groups = [] })
-    ∷ (codes "tok-ann", record { owner = false; groups = codes "staff" ∷ [] })
-    ∷ (codes "tok-bob", record { owner = false; groups = codes "ops" ∷ [] })
-    ∷ [])
+demo_readers = record {
+  by_token = map.from_entries (
+      (codes "tok-owner", record { owner = true; groups = [] })
+      ∷ (codes "tok-ann", record { owner = false; groups = codes "staff" ∷ [] })
+      ∷ (codes "tok-bob", record { owner = false; groups = codes "ops" ∷ [] })
+      ∷ []);
+  by_digest = map.empty;
+}
 
 -- a page of one group, with its text
 abbrev pub demo_page : List ℕ → List ℕ → List ℕ → PageRow

@@ -1,5 +1,5 @@
 -- The world of a configured site: its pages are put one after the other. All of this is this project's choice.
-use Rattle.std.specs.Prelude.{ℕ, List, [], ◌∷◌, Option, Some, None, Result, Ok, Err, if◌then◌else◌}
+use Rattle.std.specs.Prelude.{ℕ, List, [], ◌∷◌, true, Option, Some, None, Result, Ok, Err, if◌then◌else◌}
 use Rattle.std.specs.Option.{ok_or}
 use Rattle.doc_store.specs.declared.store.EditError.{EditError}
 use Rattle.doc_store.specs.declared.store.Put.{Put}
@@ -45,7 +45,7 @@ with_pages w (page ∷ more) texts = elim (with_page w page (text_of page.source
 
 -- the settings of a configured site
 abbrev pub settings_of : SiteConfig → Settings
-settings_of config = record { keep_alive = config.keep_alive; browse = config.browse }
+settings_of config = record { keep_alive = config.keep_alive; takes_edits = true; browse = config.browse }
 
 -- the world of a configured site beside media, without connections, or what stops the program: the cache may have no such capacity, or a
 -- page is refused, as where a medium stands under its path

@@ -57,7 +57,11 @@ pub fn site_hub_beside<R: Renderer + Drop>(
         pages,
         browse,
     } = config;
-    let settings = Settings { keep_alive, browse };
+    let settings = Settings {
+        keep_alive,
+        takes_edits: true,
+        browse,
+    };
     let mut hub = new_hub(heap, renderer, readers, settings, cache, media)?;
     put_pages(&mut hub, pages.get(), texts)?;
     Ok(hub)

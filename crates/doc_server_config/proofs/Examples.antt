@@ -1,13 +1,13 @@
 -- The definitions on worked examples.
 use Rattle.std.proofs.Common.{◌≡◌, [], ◌∷◌, true, false, codes, refl}
 use Rattle.std.specs.Prelude.{Some, None, Ok, Err}
-use Rattle.std.specs.FinMap as map
 use Rattle.std.specs.Str.{chars}
 use Rattle.toml.proofs.OnLiterals.{toml_on_literals}
 use Rattle.doc_page_parts.specs.Paths.{is_path}
 use Rattle.doc_page_parts.specs.Tokens.{is_token}
 use Rattle.doc_store_readers.specs.declared.readers.ReadersError.TheVariants as readers
 use Rattle.doc_store_readers.specs.Groups.{groups_of_names}
+use Rattle.doc_store_readers.specs.Readers.{no_readers}
 use Rattle.doc_front.specs.declared.rules.FrontMatter.TheVariants.{Keep, Skip, Title}
 use Rattle.doc_front.specs.Front.{none}
 use Rattle.doc_server_config.specs.declared.config.ConfigError.TheVariants.{BadToml, BadReaders, BadSetting, BadPage}
@@ -17,7 +17,7 @@ use Rattle.doc_server_config.specs.Markdown.{no_options, plain}
 
 -- nothing is said: connections are kept, and so are 64 filled pages; there are no readers and no pages
 empty_text : config_of (codes "")
-    ≡ Ok (record { keep_alive = true; cache = 64; entities = None; markdown = plain; readers = map.empty; pages = []; browse = None })
+    ≡ Ok (record { keep_alive = true; cache = 64; entities = None; markdown = plain; readers = no_readers; pages = []; browse = None })
 unfolding toml_on_literals
 empty_text = refl
 
@@ -27,7 +27,7 @@ all_settings : config_of (codes "keep_alive = false\ncache = 4096\nentities = \"
       cache = 4096;
       entities = Some (codes "e.txt");
       markdown = plain;
-      readers = map.empty;
+      readers = no_readers;
       pages = [];
       browse = None;
     })
@@ -40,7 +40,7 @@ pages_in_order : config_of (codes "[[page]]\npath = \"b.md\"\ngroups = [\"ops\"]
       cache = 64;
       entities = None;
       markdown = plain;
-      readers = map.empty;
+      readers = no_readers;
       pages = record { path = codes "b.md"; groups = codes "ops" ∷ []; source = Text (codes "x") }
           ∷ record { path = codes "a.md"; groups = []; source = File (codes "f") } ∷ [];
       browse = None;
@@ -55,7 +55,7 @@ fronts :
       cache = 64;
       entities = None;
       markdown = record { front = record { skip_bom = true; front_matter = Title }; options = no_options };
-      readers = map.empty;
+      readers = no_readers;
       pages = [];
       browse = None;
     }))
@@ -65,7 +65,7 @@ fronts :
       cache = 64;
       entities = None;
       markdown = record { front = record { skip_bom = false; front_matter = Skip }; options = no_options };
-      readers = map.empty;
+      readers = no_readers;
       pages = [];
       browse = None;
     }))
@@ -79,7 +79,7 @@ extensions :
       cache = 64;
       entities = None;
       markdown = record { front = none; options = record { tables = true; strikethrough = false; tasks = true; bare_links = false; images = false } };
-      readers = map.empty;
+      readers = no_readers;
       pages = [];
       browse = None;
     }))
@@ -92,7 +92,7 @@ extensions :
         front = record { skip_bom = true; front_matter = Keep };
         options = record { tables = false; strikethrough = true; tasks = false; bare_links = true; images = false };
       };
-      readers = map.empty;
+      readers = no_readers;
       pages = [];
       browse = None;
     }))
@@ -105,7 +105,7 @@ told_images : config_of (codes "[markdown]\ncheck_images = true\ntasks = true\n"
       cache = 64;
       entities = None;
       markdown = record { front = none; options = record { tables = false; strikethrough = false; tasks = true; bare_links = false; images = true } };
-      readers = map.empty;
+      readers = no_readers;
       pages = [];
       browse = None;
     })

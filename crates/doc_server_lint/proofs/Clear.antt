@@ -11,7 +11,7 @@ use Rattle.doc_store_readers.proofs.KeySteps.{bytes_eq_is, same_from}
 use Rattle.doc_store_readers.specs.declared.groups.GroupsError.{GroupsError}
 use Rattle.doc_store_readers.specs.declared.groups.GroupsError.TheVariants as refusals
 use Rattle.doc_store_readers.specs.Groups.{groups_of_names}
-use Rattle.doc_store_readers.specs.Readers.{good_token, groups_at, tables_at}
+use Rattle.doc_store_readers.specs.Readers.{groups_at, tables_at}
 use Rattle.doc_page_parts.proofs.Bools.{and_first, and_second, same_bool}
 use Rattle.doc_server_config.specs.Bounds.{within}
 use Rattle.doc_server_config.specs.Excepted.{are_folder_names, except_at, good_names}
@@ -156,15 +156,6 @@ entities_good (Some value) = any_text_allows (as_str value) ∙ by (as_str value
     by : (text : Option (List ℕ)) → is_some text ≡ is_some (option_map Some text)
     by None = refl
     by (Some text) = refl
-
-pub token_good : (held : Option Data) → allows (key_fault (rule.Needed form.Token) held)
-    ≡ is_some (good_token (option_and_then as_str held))
-token_good None = refl
-token_good (Some value) = by (as_str value)
-  where
-    by : (text : Option (List ℕ)) → allows (text_fault form.Token text) ≡ is_some (good_token text)
-    by None = refl
-    by (Some text) = told_allows _ _ refl ∙ if_taken (is_form form.Token text) text
 
 -- ---- the keys of a table
 

@@ -1,7 +1,6 @@
 -- A document is taken where it is refused for no finding, and only there.
 use Rattle.std.proofs.Common.{◌≡◌, ℕ, List, [], ◌∷◌, ◌++◌, Bool, true, false, not, ◌&&◌, is_some, is_ok, codes, refl, ap, sym, ◌∙◌}
 use Rattle.std.specs.Prelude.{Option, Some, None, Result, Ok, Err}
-use Rattle.std.specs.FinMap as map
 use Rattle.std.specs.List.{list_any}
 use Rattle.toml.specs.Data.{Data, Items, Members, get_member}
 use Rattle.doc_page_parts.proofs.Bools.{and_first, and_second, or_first, or_second, same_bool}
@@ -22,7 +21,7 @@ use Rattle.doc_server_lint.specs.declared.rule.Form.TheVariants as form
 use Rattle.doc_server_lint.specs.declared.rule.Rule.TheVariants as rule
 use Rattle.doc_server_lint.specs.Faults.{faults_of, faults_of_folders, faults_of_held, faults_of_keys, faults_of_pages, faults_of_readers}
 use Rattle.doc_server_lint.specs.Faults.{faults_of_rows}
-use Rattle.doc_server_lint.specs.Faults.{faults_of_tables, rows_at, rows_of}
+use Rattle.doc_server_lint.specs.Faults.{faults_of_tables, nobody_known, rows_at, rows_of}
 use Rattle.doc_server_lint.specs.Findings.{findings_of}
 use Rattle.doc_server_lint.specs.Laws.{is_clear, is_of_site, is_taken}
 use Rattle.doc_server_lint.specs.Rules.{browse_keys, listen_keys, markdown_keys, top_keys}
@@ -59,7 +58,7 @@ rows_split good None = refl
 rows_split good (Some rows) = refl
 
 readers_parts : (tables : Option Items)
-    → (is_some tables && (each (λ row. is_some (entry_of row)) (rows_of tables) && are_fresh map.empty 1 (rows_of tables)))
+    → (is_some tables && (each (λ row. is_some (entry_of row)) (rows_of tables) && are_fresh nobody_known 1 (rows_of tables)))
     ≡ is_ok (table_of (readers_of_entries (entries_of (reader_tables tables))))
 readers_parts None = refl
 readers_parts (Some rows) = sym (readers_taken rows) ∙ by (readers_of_entries (entries_of (Ok rows)))
@@ -210,10 +209,10 @@ document_clear document =
     let markdown = faults_of_held place.Markdown markdown_keys (at (codes "markdown")) in
     let listen = faults_of_held place.Listen listen_keys (at (codes "listen")) in
     let browse = faults_of_held place.Browse browse_keys (at (codes "browse")) in
-    let reader_rows = faults_of_readers map.empty 1 (rows_at (codes "reader") document) in
+    let reader_rows = faults_of_readers nobody_known 1 (rows_at (codes "reader") document) in
     let page_rows = faults_of_pages 1 (rows_at (codes "page") document) in
     let folder_rows = faults_of_folders 1 (rows_at (codes "folder") document) in
-    let readers_good = readers_clear map.empty 1 (rows_at (codes "reader") document) in
+    let readers_good = readers_clear nobody_known 1 (rows_at (codes "reader") document) in
     let pages_good = pages_clear 1 (rows_at (codes "page") document) in
     let folders_good = folders_clear 1 (rows_at (codes "folder") document) in
     let tables = clear_append (markdown ++ listen) browse ∙ ap (λ x. x && is_clear browse) (clear_append markdown listen) in

@@ -1,26 +1,29 @@
 -- Readers that are taken, by their rows.
-use Rattle.std.proofs.Common.{◌≡◌, ◌+◌, ℕ, List, [], ◌∷◌, ◌++◌, Bool, true, false, not, cond, ◌&&◌, is_some, is_ok, append_assoc, refl}
+use Rattle.std.proofs.Common.{◌≡◌, ◌+◌, ℕ, List, [], ◌∷◌, ◌++◌, Bool, true, false, not, cond, ◌&&◌, ◌||◌, is_some, is_ok, append_assoc, refl}
 use Rattle.std.proofs.Common.{ap, sym, ◌∙◌}
 use Rattle.std.proofs.Common.{codes, subst}
 use Rattle.std.specs.Prelude.{Option, Some, None, Result, Ok, Err, if◌then◌else◌}
 use Rattle.std.specs.FinMap as map
 use Rattle.std.specs.Cmp.Lexicographic.{slice_cmp}
+use Rattle.std.specs.Option.{option_or}
 use Rattle.std.specs.Ordering.{nat_cmp}
-use Rattle.std.proofs.lemmas.Cmp.{nat_list_cmp_total}
 use Rattle.std.proofs.lemmas.List.{append-nil}
-use Rattle.std.proofs.lemmas.Map.Lookups.{exact_bytes}
 use Rattle.std.proofs.lemmas.Option.{same_Some}
 use Rattle.toml.specs.Data.{Data, Items, no_items, item, get}
 use Rattle.doc_store_readers.specs.declared.entries.Entry.{Entry}
 use Rattle.doc_store_readers.specs.declared.reader.Reader.{Reader}
 use Rattle.doc_store_readers.specs.declared.readers.ReadersError.{ReadersError}
 use Rattle.doc_store_readers.specs.declared.readers.ReadersError.TheVariants.{BadRow, Twice}
-use Rattle.doc_store_readers.specs.Readers.{entries_from, entry_of, entry_with, groups_at, owner_at, readers_from, readers_of_entries}
-use Rattle.doc_store_readers.specs.Readers.{token_in}
+use Rattle.doc_store_readers.specs.declared.keys.Key.{Key}
+use Rattle.doc_store_readers.specs.declared.keys.Key.TheVariants.{Token, Digest}
+use Rattle.doc_store_readers.specs.Keys.{key_in}
+use Rattle.doc_store_readers.specs.Readers.{Listed, by_their_digests, comes_again, entries_from, entry_of, entry_with, groups_at, is_listed}
+use Rattle.doc_store_readers.specs.Readers.{listed_with, none_listed, owner_at, readers_from, readers_of_entries}
 use Rattle.doc_store_readers.proofs.KeySteps.{contains_set, same_key}
 use Rattle.doc_page_parts.proofs.Bools.{and_first, and_second, clash}
-use Rattle.doc_page_parts.proofs.Options.{is_some_false}
-use Rattle.doc_server_lint.specs.Faults.{Rows, row_of, with_row}
+use Rattle.sha2.specs.Sha256.{sha256}
+use Rattle.doc_server_lint.specs.declared.known_readers.KnownReaders.{KnownReaders}
+use Rattle.doc_server_lint.specs.Faults.{Rows, known_as, known_at, known_with, nobody_known, with_reader}
 use Rattle.doc_server_lint.proofs.ClearRows.{are_fresh, each}
 
 abbrev pub is_reader : Data → Bool
@@ -64,70 +67,132 @@ entries_are found n (item row rest) all = by (entry_of row) (λ entry. entries_a
     by None more all = cc
     by (Some entry) more all = more entry all ∙ ap Ok (append_assoc found (entry ∷ []) (entries_in rest))
 
--- a reader's entry has its token
-pub token_is : (a : Option (List ℕ)) (b : Option Bool) (c : Option (List (List ℕ))) (entry : Entry) → entry_with a b c ≡ Some entry
-    → a ≡ Some entry.token
-token_is None b c entry is = cc
-token_is (Some a) None c entry is = cc
-token_is (Some a) (Some b) None entry is = cc
-token_is (Some a) (Some b) (Some c) entry is = ap (λ (one : Entry). Some one.token) (same_Some _ entry is)
+-- a reader's entry has its key
+pub key_is : (a : Option Key) (b : Option Bool) (c : Option (List (List ℕ))) (entry : Entry) → entry_with a b c ≡ Some entry
+    → a ≡ Some entry.key
+key_is None b c entry is = cc
+key_is (Some a) None c entry is = cc
+key_is (Some a) (Some b) None entry is = cc
+key_is (Some a) (Some b) (Some c) entry is = ap (λ (one : Entry). Some one.key) (same_Some _ entry is)
 
--- the rows of the tokens are those of the readers before
-abbrev pub AreTokens : List (List ℕ × Reader) → Rows → Type 0
-AreTokens before tokens = (token : List ℕ) → is_some (map.get tokens token) ≡ is_some (map.find (slice_cmp nat_cmp) token before)
+-- ---- the rows of the readers before
 
-pub one_more : (before : List (List ℕ × Reader)) (tokens : Rows) (token : List ℕ) (reader : Reader) (n : ℕ)
-    → map.find (slice_cmp nat_cmp) token before ≡ None → AreTokens before tokens
-    → AreTokens (before ++ (token, reader) ∷ []) (map.insert tokens token n)
-one_more before tokens token reader n none are = λ other.
-    contains_set tokens token n other
-    ∙ ap (cond (same_key other token) true) (are other ∙ sym (ap is_some (map.get-from_entries nat_list_cmp_total before other)))
-    ∙ sym (contains_set (map.from_entries before) token reader other)
-    ∙ sym (ap (λ m. is_some (map.get m other)) (map.from_entries_push nat_list_cmp_total exact_bytes before token reader none))
-    ∙ ap is_some (map.get-from_entries nat_list_cmp_total (before ++ (token, reader) ∷ []) other)
+-- whether a key is among listed ones and one more
+listed_more : (key other : List ℕ) (reader : Reader) (readers : List (List ℕ × Reader))
+    → is_listed key (readers ++ (other, reader) ∷ []) ≡ cond (same_key key other) true (is_listed key readers)
+listed_more key other reader [] = by (same_key key other)
+  where
+    by : (b : Bool) → is_some (cond b (Some reader) None) ≡ cond b true false
+    by true = refl
+    by false = refl
+listed_more key other reader (entry ∷ readers) =
+    by (same_key key entry.0) (same_key key other) _ _ (listed_more key other reader readers)
+  where
+    by : (b c : Bool) (after before : Option Reader) → is_some after ≡ cond c true (is_some before)
+        → is_some (cond b (Some entry.1) after) ≡ cond c true (is_some (cond b (Some entry.1) before))
+    by true true after before e = refl
+    by true false after before e = refl
+    by false c after before e = e
+
+-- the digests of listed tokens and of one more
+digests_more : (token : List ℕ) (reader : Reader) (readers : List (List ℕ × Reader))
+    → by_their_digests (readers ++ (token, reader) ∷ []) ≡ by_their_digests readers ++ (sha256 token, reader) ∷ []
+digests_more token reader [] = refl
+digests_more token reader (entry ∷ readers) = ap (λ rest. (sha256 entry.0, entry.1) ∷ rest) (digests_more token reader readers)
+
+-- the rows have the keys that are listed
+abbrev Have : Rows → List (List ℕ × Reader) → Type 0
+Have rows readers = (key : List ℕ) → is_some (map.get rows key) ≡ is_listed key readers
+
+none_had : Have map.empty []
+none_had key = ap is_some (map.get-empty (slice_cmp nat_cmp) key)
+
+one_had : (rows : Rows) (readers : List (List ℕ × Reader)) (key : List ℕ) (reader : Reader) (n : ℕ) → Have rows readers
+    → Have (map.insert rows key n) (readers ++ (key, reader) ∷ [])
+one_had rows readers key reader n have = λ other.
+    contains_set rows key n other ∙ ap (cond (same_key other key) true) (have other) ∙ sym (listed_more other key reader readers)
+
+-- what is known of the readers before
+pub record AreKnown (before : Listed) (known : KnownReaders) : Type 0 where
+  pub by_token : Have known.by_token before.by_token
+  pub by_digest : Have known.by_digest before.by_digest
+  pub of_tokens : Have known.of_tokens (by_their_digests before.by_token)
+
+pub none_known : AreKnown none_listed nobody_known
+none_known = record { by_token = none_had; by_digest = none_had; of_tokens = none_had }
+
+one_of_two : (one other : Option ℕ) → is_some (option_or one other) ≡ (is_some one || is_some other)
+one_of_two None other = refl
+one_of_two (Some n) other = refl
+
+-- a key comes again where a row has it
+pub comes_known : (before : Listed) (known : KnownReaders) (key : Key) → AreKnown before known
+    → is_some (known_as known key) ≡ comes_again before key
+comes_known before known (Token token) are =
+    one_of_two (map.get known.by_token token) (map.get known.by_digest (sha256 token))
+    ∙ (λ i. are.by_token token i || are.by_digest (sha256 token) i)
+comes_known before known (Digest digest) are =
+    one_of_two (map.get known.by_digest digest) (map.get known.of_tokens digest)
+    ∙ (λ i. are.by_digest digest i || are.of_tokens digest i)
+
+pub one_more : (before : Listed) (known : KnownReaders) (key : Key) (reader : Reader) (n : ℕ) → AreKnown before known
+    → AreKnown (listed_with before key reader) (known_with known key n)
+one_more before known (Token token) reader n are = record {
+  by_token = one_had known.by_token before.by_token token reader n are.by_token;
+  by_digest = are.by_digest;
+  of_tokens = subst (Have (map.insert known.of_tokens (sha256 token) n)) (sym (digests_more token reader before.by_token))
+      (one_had known.of_tokens (by_their_digests before.by_token) (sha256 token) reader n are.of_tokens);
+}
+one_more before known (Digest digest) reader n are = record {
+  by_token = are.by_token;
+  by_digest = one_had known.by_digest before.by_digest digest reader n are.by_digest;
+  of_tokens = are.of_tokens;
+}
+
+-- ---- readers that are taken
 
 -- the rows behind one of an entry are taken, where they are fresh
-abbrev MoreAreTaken : List (List ℕ × Reader) → ℕ → Rows → ℕ → Items → Type 0
-MoreAreTaken before m tokens n rest =
-    (entry : Entry) → AreTokens (before ++ (entry.token, entry.reader) ∷ []) (map.insert tokens entry.token n) → each is_reader rest ≡ true
-    → is_ok (readers_from (before ++ (entry.token, entry.reader) ∷ []) (m + 1) (entries_in rest))
-    ≡ are_fresh (map.insert tokens entry.token n) (n + 1) rest
+abbrev MoreAreTaken : Listed → ℕ → KnownReaders → ℕ → Items → Type 0
+MoreAreTaken before m known n rest =
+    (entry : Entry) → AreKnown (listed_with before entry.key entry.reader) (known_with known entry.key n) → each is_reader rest ≡ true
+    → is_ok (readers_from (listed_with before entry.key entry.reader) (m + 1) (entries_in rest))
+    ≡ are_fresh (known_with known entry.key n) (n + 1) rest
 
-pub fresh_are_taken : (before : List (List ℕ × Reader)) (m : ℕ) (tokens : Rows) (n : ℕ) (rows : Items) → AreTokens before tokens
-    → each is_reader rows ≡ true → is_ok (readers_from before m (entries_in rows)) ≡ are_fresh tokens n rows
-fresh_are_taken before m tokens n no_items are all = refl
-fresh_are_taken before m tokens n (item row rest) are all =
-    by (λ entry. fresh_are_taken (before ++ (entry.token, entry.reader) ∷ []) (m + 1) (map.insert tokens entry.token n) (n + 1) rest)
+pub fresh_are_taken : (before : Listed) (m : ℕ) (known : KnownReaders) (n : ℕ) (rows : Items) → AreKnown before known
+    → each is_reader rows ≡ true → is_ok (readers_from before m (entries_in rows)) ≡ are_fresh known n rows
+fresh_are_taken before m known n no_items are all = refl
+fresh_are_taken before m known n (item row rest) are all =
+    by (λ entry. fresh_are_taken (listed_with before entry.key entry.reader) (m + 1) (known_with known entry.key n) (n + 1) rest)
     (entry_of row)
     refl
   where
-    by_token : (entry : Entry) (b : Bool) → MoreAreTaken before m tokens n rest
-        → is_some (map.find (slice_cmp nat_cmp) entry.token before) ≡ b → each is_reader rest ≡ true
-        → is_ok (if b then Err (Twice m) else readers_from (before ++ (entry.token, entry.reader) ∷ []) (m + 1) (entries_in rest))
-        ≡ (not b && are_fresh (map.insert tokens entry.token n) (n + 1) rest)
-    by_token entry true more is all = refl
-    by_token entry false more is all = more entry (one_more before tokens entry.token entry.reader n (is_some_false _ is) are) all
+    by_key : (entry : Entry) (b : Bool) → MoreAreTaken before m known n rest → comes_again before entry.key ≡ b
+        → each is_reader rest ≡ true
+        → is_ok (if b then Err (Twice m) else readers_from (listed_with before entry.key entry.reader) (m + 1) (entries_in rest))
+        ≡ (not b && are_fresh (known_with known entry.key n) (n + 1) rest)
+    by_key entry true more is all = refl
+    by_key entry false more is all = more entry (one_more before known entry.key entry.reader n are) all
 
-    by : MoreAreTaken before m tokens n rest → (entry : Option Entry) → entry_of row ≡ entry
+    by : MoreAreTaken before m known n rest → (entry : Option Entry) → entry_of row ≡ entry
         → is_ok (readers_from before m (kept entry (entries_in rest)))
-        ≡ (not (is_some (row_of tokens (token_in row))) && are_fresh (with_row tokens (token_in row) n) (n + 1) rest)
+        ≡ (not (is_some (known_at known (key_in row))) && are_fresh (with_reader known (key_in row) n) (n + 1) rest)
     by more None is = absurd (clash (is_some (entry_of row)) (and_first _ _ all) (ap is_some is))
     by more (Some entry) is =
-        subst (λ token. is_ok (readers_from before m (entry ∷ entries_in rest))
-        ≡ (not (is_some (row_of tokens token)) && are_fresh (with_row tokens token n) (n + 1) rest))
-        (sym (token_is (token_in row) (owner_at (get (codes "owner") row)) (groups_at (get (codes "groups") row)) entry is))
-        (by_token entry (is_some (map.find (slice_cmp nat_cmp) entry.token before)) more refl (and_second _ _ all)
-        ∙ ap (λ b. not b && are_fresh (map.insert tokens entry.token n) (n + 1) rest) (sym (are entry.token)))
+        subst (λ key. is_ok (readers_from before m (entry ∷ entries_in rest))
+        ≡ (not (is_some (known_at known key)) && are_fresh (with_reader known key n) (n + 1) rest))
+        (sym (key_is (key_in row) (owner_at (get (codes "owner") row)) (groups_at (get (codes "groups") row)) entry is))
+        (by_key entry (comes_again before entry.key) more refl (and_second _ _ all)
+        ∙ ap (λ b. not b && are_fresh (known_with known entry.key n) (n + 1) rest) (sym (comes_known before known entry.key are)))
 
 pub readers_taken : (rows : Items) → is_ok (readers_of_entries (entries_from [] 1 rows))
-    ≡ (each is_reader rows && are_fresh map.empty 1 rows)
+    ≡ (each is_reader rows && are_fresh nobody_known 1 rows)
 readers_taken rows = by (each is_reader rows) refl
   where
     refused : (entries : Result (List Entry) ReadersError) → is_ok entries ≡ false → is_ok (readers_of_entries entries) ≡ false
     refused (Ok entries) is = cc
     refused (Err e) is = refl
 
-    by : (b : Bool) → each is_reader rows ≡ b → is_ok (readers_of_entries (entries_from [] 1 rows)) ≡ (b && are_fresh map.empty 1 rows)
+    by : (b : Bool) → each is_reader rows ≡ b → is_ok (readers_of_entries (entries_from [] 1 rows)) ≡ (b && are_fresh nobody_known 1 rows)
     by true is = ap (λ entries. is_ok (readers_of_entries entries)) (entries_are [] 1 rows is)
-        ∙ fresh_are_taken [] 1 map.empty 1 rows (λ token. ap is_some (map.get-empty (slice_cmp nat_cmp) token)) is
+        ∙ fresh_are_taken none_listed 1 nobody_known 1 rows none_known is
     by false is = refused (entries_from [] 1 rows) (entries_taken [] 1 rows ∙ is)

@@ -1,9 +1,14 @@
 -- What a document is refused for, row by row.
 use Rattle.std.proofs.Common.{◌≡◌, ◌+◌, ℕ, List, [], ◌∷◌, ◌++◌, Bool, true, false, not, ◌&&◌, is_some, is_ok, codes, refl, ap, sym, ◌∙◌}
-use Rattle.std.specs.Prelude.{Option, Some, None, Result, Ok, Err, option_map, if◌then◌else◌}
+use Rattle.std.specs.Prelude.{Option, Some, None, Result, Ok, Err, option_and_then, option_map, if◌then◌else◌}
 use Rattle.std.specs.Result.{result_ok}
 use Rattle.toml.specs.Data.{Data, Items, no_items, item, Members, get, as_str, as_table}
-use Rattle.doc_store_readers.specs.Readers.{entry_of, entry_with, groups_at, owner_at, token_in}
+use Rattle.doc_store_readers.specs.declared.keys.Key.{Key}
+use Rattle.doc_store_readers.specs.declared.keys.Key.TheVariants as keys
+use Rattle.doc_store_readers.specs.Keys.{digest_of_text, good_token, key_in, key_of}
+use Rattle.doc_store_readers.specs.Readers.{entry_of, entry_with, groups_at, owner_at}
+use Rattle.doc_page_parts.specs.Tokens.{is_token}
+use Rattle.doc_server_lint.specs.declared.known_readers.KnownReaders.{KnownReaders}
 use Rattle.doc_page_parts.specs.Paths.{path_of}
 use Rattle.doc_server_config.specs.declared.config.ConfigError.{ConfigError}
 use Rattle.doc_server_config.specs.declared.config.ConfigError.TheVariants.{BadPage}
@@ -25,16 +30,16 @@ use Rattle.doc_server_config.specs.PageRows.{page_of, page_with, pages_from, pat
 use Rattle.doc_server_lint.specs.declared.place.Place.TheVariants as place
 use Rattle.doc_server_lint.specs.declared.rule.Form.TheVariants as form
 use Rattle.doc_server_lint.specs.declared.rule.Rule.TheVariants as rule
-use Rattle.doc_server_lint.specs.declared.what.What.TheVariants.{TokenOf}
-use Rattle.doc_server_lint.specs.Faults.{Rows, faults_of_closed, faults_of_folders, faults_of_keys, faults_of_page, faults_of_pages}
-use Rattle.doc_server_lint.specs.Faults.{faults_of_reader}
-use Rattle.doc_server_lint.specs.Faults.{faults_of_readers, row_of, source_fault, with_row}
+use Rattle.doc_server_lint.specs.declared.what.What.TheVariants.{Bad, NoToken, TokenOf}
+use Rattle.doc_server_lint.specs.Faults.{faults_of_closed, faults_of_folders, faults_of_keys, faults_of_page, faults_of_pages}
+use Rattle.doc_server_lint.specs.Faults.{faults_of_key_again, faults_of_reader, faults_of_row, finding_of, known_at, naming_fault, naming_key}
+use Rattle.doc_server_lint.specs.Faults.{faults_of_readers, source_fault, with_reader}
 use Rattle.doc_server_lint.specs.Laws.{is_clear}
 use Rattle.doc_server_lint.specs.Rules.{folder_keys, names_of, page_keys, reader_keys}
-use Rattle.doc_server_lint.specs.Values.{key_fault, text_fault}
+use Rattle.doc_server_lint.specs.Values.{key_fault, text_fault, told}
 use Rattle.doc_server_lint.proofs.Clear.{allows, any_text_allows, clear_append, closed_clear, except_good, finding_clear, groups_good}
 use Rattle.doc_server_lint.proofs.Clear.{if_taken, keys_clear, media_good, only, page_text_allows, path_taken, same_names, text_taken}
-use Rattle.doc_server_lint.proofs.Clear.{token_good, told_allows}
+use Rattle.doc_server_lint.proofs.Clear.{told_allows}
 
 -- whether each row is good
 abbrev pub each : (Data → Bool) → Items → Bool
@@ -222,7 +227,35 @@ owner_good : (held : Option Data) → allows (key_fault rule.Boolean held) ≡ i
 owner_good None = refl
 owner_good (Some value) = told_allows _ _ refl
 
-entry_parts : (a : Option (List ℕ)) (b : Option Bool) (c : Option (List (List ℕ)))
+-- a token that is one, or a digest that is one, and not both
+naming_good : (token digest : Option Data)
+    → (allows (naming_fault token digest) && (allows (key_fault (rule.Text form.Token) token)
+    && allows (key_fault (rule.Text form.Digest) digest)))
+    ≡ is_some (key_of token digest)
+naming_good None None = refl
+naming_good (Some token) None = by_text (as_str token)
+  where
+    by_token : (text : List ℕ) (good : Bool)
+        → (allows (told NoToken good) && true) ≡ is_some (option_map keys.Token (if good then Some text else None))
+    by_token text true = refl
+    by_token text false = refl
+
+    by_text : (text : Option (List ℕ)) → (allows (text_fault form.Token text) && true) ≡ is_some (option_map keys.Token (good_token text))
+    by_text None = refl
+    by_text (Some text) = by_token text (is_token text)
+naming_good None (Some digest) = by_text (as_str digest)
+  where
+    by_digest : (found : Option (List ℕ)) → allows (told Bad (is_some found)) ≡ is_some (option_map keys.Digest found)
+    by_digest None = refl
+    by_digest (Some found) = refl
+
+    by_text : (text : Option (List ℕ))
+        → allows (text_fault form.Digest text) ≡ is_some (option_map keys.Digest (option_and_then digest_of_text text))
+    by_text None = refl
+    by_text (Some text) = by_digest (digest_of_text text)
+naming_good (Some token) (Some digest) = refl
+
+entry_parts : (a : Option Key) (b : Option Bool) (c : Option (List (List ℕ)))
     → is_some (entry_with a b c) ≡ (is_some a && (is_some b && (is_some c && true)))
 entry_parts None b c = refl
 entry_parts (Some a) None c = refl
@@ -233,30 +266,43 @@ fresh_token : (earlier : Option ℕ) → allows (option_map TokenOf earlier) ≡
 fresh_token None = refl
 fresh_token (Some m) = refl
 
--- a reader's own keys
-pub reader_entry : (n : ℕ) (row : Data) → is_clear (faults_of_keys (place.Reader n) reader_keys (λ key. get key row))
-    ≡ is_some (entry_of row)
+named_first : (a b c d : Bool) → (a && (b && (c && d))) ≡ ((a && (b && c)) && d)
+named_first true true true d = refl
+named_first true true false d = refl
+named_first true false c d = refl
+named_first false b c d = refl
+
+-- a reader's own faults
+pub reader_entry : (n : ℕ) (row : Data) → is_clear (faults_of_row n row) ≡ is_some (entry_of row)
 reader_entry n row =
-    let token = token_good (get (codes "token") row) in
+    let token = get (codes "token") row in
+    let digest = get (codes "token_sha256") row in
     let owner = owner_good (get (codes "owner") row) in
     let groups = groups_good (get (codes "groups") row) in
-    keys_clear (place.Reader n) reader_keys (λ key. get key row)
-    ∙ (λ i. token i && (owner i && (groups i && true)))
-    ∙ sym (entry_parts (token_in row) (owner_at (get (codes "owner") row)) (groups_at (get (codes "groups") row)))
+    let key = naming_good token digest in
+    let named = finding_clear (place.Reader n) (Some (codes "token")) (naming_fault token digest) in
+    let held = keys_clear (place.Reader n) reader_keys (λ key. get key row) in
+    clear_append (finding_of true (place.Reader n) (Some (codes "token")) (naming_fault token digest)) _
+    ∙ (λ i. named i && held i)
+    ∙ named_first (allows (naming_fault token digest)) (allows (key_fault (rule.Text form.Token) token)) (allows (key_fault (rule.Text
+    form.Digest) digest))
+    (allows (key_fault rule.Boolean (get (codes "owner") row)) && (allows (key_fault rule.Groups (get (codes "groups") row)) && true))
+    ∙ (λ i. key i && (owner i && (groups i && true)))
+    ∙ sym (entry_parts (key_in row) (owner_at (get (codes "owner") row)) (groups_at (get (codes "groups") row)))
 
-pub reader_clear : (tokens : Rows) (n : ℕ) (row : Data)
-    → is_clear (faults_of_reader tokens n row) ≡ (is_some (entry_of row) && not (is_some (row_of tokens (token_in row))))
-reader_clear tokens n row =
-    let keys = reader_entry n row in
-    let again = finding_clear (place.Reader n) (Some (codes "token")) (option_map TokenOf (row_of tokens (token_in row)))
-    ∙ fresh_token (row_of tokens (token_in row)) in
-    clear_append (faults_of_keys (place.Reader n) reader_keys (λ key. get key row)) _ ∙ (λ i. keys i && again i)
+pub reader_clear : (known : KnownReaders) (n : ℕ) (row : Data)
+    → is_clear (faults_of_reader known n row) ≡ (is_some (entry_of row) && not (is_some (known_at known (key_in row))))
+reader_clear known n row =
+    let own = reader_entry n row in
+    let again = finding_clear (place.Reader n) (Some (naming_key (key_in row))) (option_map TokenOf (known_at known (key_in row)))
+    ∙ fresh_token (known_at known (key_in row)) in
+    clear_append (faults_of_row n row) (faults_of_key_again known n (key_in row)) ∙ (λ i. own i && again i)
 
--- whether no row has the token of one before it
-abbrev pub are_fresh : Rows → ℕ → Items → Bool
-are_fresh tokens n no_items = true
-are_fresh tokens n (item row rest) =
-    not (is_some (row_of tokens (token_in row))) && are_fresh (with_row tokens (token_in row) n) (n + 1) rest
+-- whether no row has a reader of one before it
+abbrev pub are_fresh : KnownReaders → ℕ → Items → Bool
+are_fresh known n no_items = true
+are_fresh known n (item row rest) =
+    not (is_some (known_at known (key_in row))) && are_fresh (with_reader known (key_in row) n) (n + 1) rest
 
 apart : (a b c d : Bool) → ((a && b) && (c && d)) ≡ ((a && c) && (b && d))
 apart true true c d = refl
@@ -264,13 +310,13 @@ apart true false true d = refl
 apart true false false d = refl
 apart false b c d = refl
 
-pub readers_clear : (tokens : Rows) (n : ℕ) (rows : Items)
-    → is_clear (faults_of_readers tokens n rows) ≡ (each (λ row. is_some (entry_of row)) rows && are_fresh tokens n rows)
-readers_clear tokens n no_items = refl
-readers_clear tokens n (item row rest) =
-    let first = reader_clear tokens n row in
-    let more = readers_clear (with_row tokens (token_in row) n) (n + 1) rest in
-    clear_append (faults_of_reader tokens n row) (faults_of_readers (with_row tokens (token_in row) n) (n + 1) rest)
+pub readers_clear : (known : KnownReaders) (n : ℕ) (rows : Items)
+    → is_clear (faults_of_readers known n rows) ≡ (each (λ row. is_some (entry_of row)) rows && are_fresh known n rows)
+readers_clear known n no_items = refl
+readers_clear known n (item row rest) =
+    let first = reader_clear known n row in
+    let more = readers_clear (with_reader known (key_in row) n) (n + 1) rest in
+    clear_append (faults_of_reader known n row) (faults_of_readers (with_reader known (key_in row) n) (n + 1) rest)
     ∙ (λ i. first i && more i)
-    ∙ apart (is_some (entry_of row)) (not (is_some (row_of tokens (token_in row)))) (each (λ row. is_some (entry_of row)) rest)
-    (are_fresh (with_row tokens (token_in row) n) (n + 1) rest)
+    ∙ apart (is_some (entry_of row)) (not (is_some (known_at known (key_in row)))) (each (λ row. is_some (entry_of row)) rest)
+    (are_fresh (with_reader known (key_in row) n) (n + 1) rest)

@@ -4,7 +4,7 @@ use Rattle.std.specs.Prelude.{Option, Some, None, option_map, if◌then◌else�
 use Rattle.std.specs.FinMap as map
 use Rattle.std.specs.List.{flat_map}
 use Rattle.toml.specs.Data.{Data, Items, no_items, item, Members, get, as_table}
-use Rattle.doc_store_readers.specs.Readers.{token_in}
+use Rattle.doc_store_readers.specs.Keys.{key_in}
 use Rattle.doc_server_config.specs.Keys.{is_one_of, keys_in}
 use Rattle.doc_server_config.specs.PageRows.{path_at}
 use Rattle.doc_server_lint.specs.declared.finding.Finding.{Finding}
@@ -54,7 +54,7 @@ row_quiet place known row = by (as_table row)
 reader_quiet : (n : ℕ) (row : Data) → is_clear (warnings_of_reader n row) ≡ true
 reader_quiet n row =
     both_quiet (unknown_in false (place.Reader n) (names_of reader_keys) row) _ (row_quiet (place.Reader n) (names_of reader_keys) row)
-    (finding_quiet (place.Reader n) (Some (codes "token")) (token_warning (token_in row)))
+    (finding_quiet (place.Reader n) (Some (codes "token")) (token_warning (key_in row)))
 
 readers_quiet : (n : ℕ) (rows : Items) → is_clear (warnings_of_readers n rows) ≡ true
 readers_quiet n no_items = refl

@@ -1,7 +1,6 @@
 -- The page or the folder for which a document is refused is the first of which a fault is told.
 use Rattle.std.proofs.Common.{◌≡◌, ◌+◌, ℕ, List, [], ◌∷◌, ◌++◌, Bool, true, false, is_some, is_ok, codes, refl, ap, ◌∙◌}
 use Rattle.std.specs.Prelude.{Option, Some, None, Result, Ok, Err, if◌then◌else◌}
-use Rattle.std.specs.FinMap as map
 use Rattle.std.specs.Option.{option_or}
 use Rattle.toml.specs.Data.{Data, Items, no_items, item, Members, as_table, get_member}
 use Rattle.doc_store_readers.specs.declared.readers.ReadersError.{ReadersError}
@@ -29,7 +28,7 @@ use Rattle.doc_server_lint.specs.declared.place.Place.{Place}
 use Rattle.doc_server_lint.specs.declared.place.Place.TheVariants as place
 use Rattle.doc_server_lint.specs.Faults.{faults_of, faults_of_closed, faults_of_folders, faults_of_held, faults_of_keys, faults_of_page}
 use Rattle.doc_server_lint.specs.Faults.{faults_of_pages}
-use Rattle.doc_server_lint.specs.Faults.{faults_of_readers, faults_of_rows, faults_of_tables, rows_at, rows_of}
+use Rattle.doc_server_lint.specs.Faults.{faults_of_readers, faults_of_rows, faults_of_tables, nobody_known, rows_at, rows_of}
 use Rattle.doc_server_lint.specs.Findings.{findings_of}
 use Rattle.doc_server_lint.specs.Laws.{first_refusal, is_of_folder, is_of_page}
 use Rattle.doc_server_lint.specs.Rules.{browse_keys, folder_keys, listen_keys, markdown_keys, top_keys}
@@ -211,12 +210,12 @@ pub bad_page_is_told : (document : Members) (n : ℕ) → config_of_document doc
 bad_page_is_told document n is =
     first_of_rows is_of_page document refl refl refl refl (place.Page n)
     (first_append (λ finding. is_of_page finding.place)
-    (faults_of_readers map.empty 1 (rows_at (codes "reader") document) ++ faults_of_pages 1 (rows_at (codes "page") document))
+    (faults_of_readers nobody_known 1 (rows_at (codes "reader") document) ++ faults_of_pages 1 (rows_at (codes "page") document))
     (faults_of_folders 1 (rows_at (codes "folder") document))
     ∙ ap (λ one. option_or one (first is_of_page (faults_of_folders 1 (rows_at (codes "folder") document))))
-    (first_append (λ finding. is_of_page finding.place) (faults_of_readers map.empty 1 (rows_at (codes "reader") document))
+    (first_append (λ finding. is_of_page finding.place) (faults_of_readers nobody_known 1 (rows_at (codes "reader") document))
     (faults_of_pages 1 (rows_at (codes "page") document))
-    ∙ (λ i. option_or (no_readers is_of_page (λ m. refl) map.empty 1 (rows_at (codes "reader") document) i)
+    ∙ (λ i. option_or (no_readers is_of_page (λ m. refl) nobody_known 1 (rows_at (codes "reader") document) i)
     (by_readers (readers_of_document document) is i))))
   where
     by_pages : (settings : _) (readers : ReaderTable) (rows : Items) (found : Result (List PageRow) ConfigError)
@@ -246,12 +245,12 @@ pub bad_folder_is_told : (document : Members) (n : ℕ) (fault : FolderFault) �
 bad_folder_is_told document n fault is =
     first_of_rows is_of_folder document refl refl refl refl (place.Folder n)
     (first_append (λ finding. is_of_folder finding.place)
-    (faults_of_readers map.empty 1 (rows_at (codes "reader") document) ++ faults_of_pages 1 (rows_at (codes "page") document))
+    (faults_of_readers nobody_known 1 (rows_at (codes "reader") document) ++ faults_of_pages 1 (rows_at (codes "page") document))
     (faults_of_folders 1 (rows_at (codes "folder") document))
     ∙ ap (λ one. option_or one (first is_of_folder (faults_of_folders 1 (rows_at (codes "folder") document))))
-    (first_append (λ finding. is_of_folder finding.place) (faults_of_readers map.empty 1 (rows_at (codes "reader") document))
+    (first_append (λ finding. is_of_folder finding.place) (faults_of_readers nobody_known 1 (rows_at (codes "reader") document))
     (faults_of_pages 1 (rows_at (codes "page") document)))
-    ∙ (λ i. option_or (option_or (no_readers is_of_folder (λ m. refl) map.empty 1 (rows_at (codes "reader") document) i)
+    ∙ (λ i. option_or (option_or (no_readers is_of_folder (λ m. refl) nobody_known 1 (rows_at (codes "reader") document) i)
     (no_pages is_of_folder (λ m. refl) 1 (rows_at (codes "page") document) i)) (by_bounds (bounds_in document) refl is i)))
   where
     by_folders : (bounds : _) (rows : Items) (found : Result (List Folder) ListeningError)

@@ -2,20 +2,17 @@
 use Rattle.std.proofs.Common.{◌≡◌, ◌+◌, ℕ, List, [], ◌∷◌, ◌++◌, Bool, true, false, not, ◌&&◌, is_some, is_ok, codes, refl, ap, sym, ◌∙◌}
 use Rattle.std.proofs.Common.{subst}
 use Rattle.std.specs.Prelude.{Option, Some, None, Result, Ok, Err, if◌then◌else◌}
-use Rattle.std.specs.FinMap as map
-use Rattle.std.specs.Cmp.Lexicographic.{slice_cmp}
 use Rattle.std.specs.Option.{option_or}
-use Rattle.std.specs.Ordering.{nat_cmp}
 use Rattle.toml.specs.Data.{Data, Items, no_items, item, Members, get, get_member}
 use Rattle.doc_page_parts.proofs.Bools.{and_first, and_second, clash}
-use Rattle.doc_page_parts.proofs.Options.{is_some_false}
 use Rattle.doc_store_readers.specs.declared.entries.Entry.{Entry}
-use Rattle.doc_store_readers.specs.declared.reader.Reader.{Reader}
 use Rattle.doc_store_readers.specs.declared.readers.ReadersError.{ReadersError}
 use Rattle.doc_store_readers.specs.declared.readers.ReadersError.TheVariants.{BadRow, Twice}
-use Rattle.doc_store_readers.specs.Readers.{ReaderTable, entries_from, entries_of, entry_of, groups_at, owner_at, reader_tables}
+use Rattle.doc_store_readers.specs.Keys.{key_in}
+use Rattle.doc_store_readers.specs.Readers.{Listed, ReaderTable, comes_again, entries_from, entries_of, entry_of, groups_at, listed_with}
+use Rattle.doc_store_readers.specs.Readers.{none_listed, owner_at, reader_tables}
 use Rattle.doc_store_readers.specs.Readers.{readers_from, readers_of_document}
-use Rattle.doc_store_readers.specs.Readers.{readers_of_entries, table_of, tables_at, token_in}
+use Rattle.doc_store_readers.specs.Readers.{readers_of_entries, table_of, tables_at}
 use Rattle.doc_server_config.specs.declared.config.ConfigError.{ConfigError}
 use Rattle.doc_server_config.specs.declared.config.ConfigError.TheVariants.{BadPage, BadReaders}
 use Rattle.doc_server_config.specs.declared.page_row.PageRow.{PageRow}
@@ -24,85 +21,87 @@ use Rattle.doc_server_config.specs.PageRows.{page_of, pages_from}
 use Rattle.doc_server_config.specs.Settings.{settings_in}
 use Rattle.doc_server_lint.specs.declared.finding.Finding.{Finding}
 use Rattle.doc_server_lint.specs.declared.place.Place.TheVariants as place
-use Rattle.doc_server_lint.specs.Faults.{Rows, faults_of_folders, faults_of_pages, faults_of_reader, faults_of_readers, row_of, rows_at}
-use Rattle.doc_server_lint.specs.Faults.{rows_of, with_row}
+use Rattle.doc_server_lint.specs.declared.known_readers.KnownReaders.{KnownReaders}
+use Rattle.doc_server_lint.specs.Faults.{faults_of_folders, faults_of_pages, faults_of_reader, faults_of_readers, known_at, known_with}
+use Rattle.doc_server_lint.specs.Faults.{nobody_known, rows_at, rows_of, with_reader}
 use Rattle.doc_server_lint.specs.Findings.{findings_of}
 use Rattle.doc_server_lint.specs.Laws.{is_of_reader}
-use Rattle.doc_server_lint.proofs.ClearReaders.{AreTokens, entries_in, entries_are, entries_taken, is_reader, kept, one_more, token_is}
+use Rattle.doc_server_lint.proofs.ClearReaders.{AreKnown, comes_known, entries_in, entries_are, entries_taken, is_reader, kept, key_is}
+use Rattle.doc_server_lint.proofs.ClearReaders.{none_known, one_more}
 use Rattle.doc_server_lint.proofs.ClearRows.{each, reader_clear}
 use Rattle.doc_server_lint.proofs.FirstLaw.{first, first_of_rows}
 use Rattle.doc_server_lint.proofs.FirstSteps.{first_append, first_here, none_of_clear, reader_at}
 
 -- what is told of the readers that are left, where nothing or something is told of this one
-module _ (tokens : Rows) (n : ℕ) (row : Data) (rest : Items) (m : ℕ) where
+module _ (known : KnownReaders) (n : ℕ) (row : Data) (rest : Items) (m : ℕ) where
   abbrev more : List Finding
-  more = faults_of_readers (with_row tokens (token_in row) n) (n + 1) rest
+  more = faults_of_readers (with_reader known (key_in row) n) (n + 1) rest
 
-  here : (is_some (entry_of row) && not (is_some (row_of tokens (token_in row)))) ≡ false → n ≡ m
-      → first is_of_reader (faults_of_readers tokens n (item row rest)) ≡ Some (place.Reader m)
+  here : (is_some (entry_of row) && not (is_some (known_at known (key_in row)))) ≡ false → n ≡ m
+      → first is_of_reader (faults_of_readers known n (item row rest)) ≡ Some (place.Reader m)
   here bad same =
-      first_append (λ finding. is_of_reader finding.place) (faults_of_reader tokens n row) more
+      first_append (λ finding. is_of_reader finding.place) (faults_of_reader known n row) more
       ∙ ap (λ one. option_or one (first is_of_reader more))
-      (first_here is_of_reader (place.Reader n) (faults_of_reader tokens n row) refl (reader_at tokens n row)
-      (reader_clear tokens n row ∙ bad))
+      (first_here is_of_reader (place.Reader n) (faults_of_reader known n row) refl (reader_at known n row)
+      (reader_clear known n row ∙ bad))
       ∙ ap (λ k. Some (place.Reader k)) same
 
-  behind : (is_some (entry_of row) && not (is_some (row_of tokens (token_in row)))) ≡ true → first is_of_reader more ≡ Some (place.Reader m)
-      → first is_of_reader (faults_of_readers tokens n (item row rest)) ≡ Some (place.Reader m)
+  behind : (is_some (entry_of row) && not (is_some (known_at known (key_in row)))) ≡ true → first is_of_reader more ≡ Some (place.Reader m)
+      → first is_of_reader (faults_of_readers known n (item row rest)) ≡ Some (place.Reader m)
   behind good found =
-      first_append (λ finding. is_of_reader finding.place) (faults_of_reader tokens n row) more
+      first_append (λ finding. is_of_reader finding.place) (faults_of_reader known n row) more
       ∙ ap (λ one. option_or one (first is_of_reader more))
-      (none_of_clear (λ finding. is_of_reader finding.place) (faults_of_reader tokens n row) (reader_clear tokens n row ∙ good))
+      (none_of_clear (λ finding. is_of_reader finding.place) (faults_of_reader known n row) (reader_clear known n row ∙ good))
       ∙ found
 
--- whether a row is taken beside the tokens before it, by its entry
-fresh_row : (before : List (List ℕ × Reader)) (tokens : Rows) (row : Data) (entry : Entry) (b : Bool) → AreTokens before tokens
-    → entry_of row ≡ Some entry → is_some (map.find (slice_cmp nat_cmp) entry.token before) ≡ b
-    → (is_some (entry_of row) && not (is_some (row_of tokens (token_in row)))) ≡ not b
-fresh_row before tokens row entry b are is found =
-    ap (λ one. is_some one && not (is_some (row_of tokens (token_in row)))) is
-    ∙ ap (λ token. not (is_some (row_of tokens token)))
-    (token_is (token_in row) (owner_at (get (codes "owner") row)) (groups_at (get (codes "groups") row)) entry is)
-    ∙ ap not (are entry.token ∙ found)
+-- whether a row is taken beside the readers before it, by its entry
+fresh_row : (before : Listed) (known : KnownReaders) (row : Data) (entry : Entry) (b : Bool) → AreKnown before known
+    → entry_of row ≡ Some entry → comes_again before entry.key ≡ b
+    → (is_some (entry_of row) && not (is_some (known_at known (key_in row)))) ≡ not b
+fresh_row before known row entry b are is found =
+    ap (λ one. is_some one && not (is_some (known_at known (key_in row)))) is
+    ∙ ap (λ key. not (is_some (known_at known key)))
+    (key_is (key_in row) (owner_at (get (codes "owner") row)) (groups_at (get (codes "groups") row)) entry is)
+    ∙ ap not (comes_known before known entry.key are ∙ found)
 
-same_row : (m n : ℕ) → ◌≡◌ {A = Result (List (List ℕ × Reader)) ReadersError} (Err (Twice m)) (Err (Twice n)) → m ≡ n
+same_row : (m n : ℕ) → ◌≡◌ {A = Result Listed ReadersError} (Err (Twice m)) (Err (Twice n)) → m ≡ n
 same_row m n is = cc
 
 -- the readers behind one of an entry
-abbrev TwiceIsToldBehind : List (List ℕ × Reader) → ℕ → Rows → Items → ℕ → Type 0
-TwiceIsToldBehind before n tokens rest m =
-    (entry : Entry) → AreTokens (before ++ (entry.token, entry.reader) ∷ []) (map.insert tokens entry.token n)
-    → readers_from (before ++ (entry.token, entry.reader) ∷ []) (n + 1) (entries_in rest) ≡ Err (Twice m)
-    → first is_of_reader (faults_of_readers (map.insert tokens entry.token n) (n + 1) rest) ≡ Some (place.Reader m)
+abbrev TwiceIsToldBehind : Listed → ℕ → KnownReaders → Items → ℕ → Type 0
+TwiceIsToldBehind before n known rest m =
+    (entry : Entry) → AreKnown (listed_with before entry.key entry.reader) (known_with known entry.key n)
+    → readers_from (listed_with before entry.key entry.reader) (n + 1) (entries_in rest) ≡ Err (Twice m)
+    → first is_of_reader (faults_of_readers (known_with known entry.key n) (n + 1) rest) ≡ Some (place.Reader m)
 
-twice_told : (before : List (List ℕ × Reader)) (n : ℕ) (tokens : Rows) (rows : Items) (m : ℕ) → AreTokens before tokens
+twice_told : (before : Listed) (n : ℕ) (known : KnownReaders) (rows : Items) (m : ℕ) → AreKnown before known
     → each is_reader rows ≡ true → readers_from before n (entries_in rows) ≡ Err (Twice m)
-    → first is_of_reader (faults_of_readers tokens n rows) ≡ Some (place.Reader m)
-twice_told before n tokens no_items m are all is = cc
-twice_told before n tokens (item row rest) m are all is =
-    by (λ entry are is. twice_told (before ++ (entry.token, entry.reader) ∷ []) (n + 1) (map.insert tokens entry.token n) rest m are
+    → first is_of_reader (faults_of_readers known n rows) ≡ Some (place.Reader m)
+twice_told before n known no_items m are all is = cc
+twice_told before n known (item row rest) m are all is =
+    by (λ entry are is. twice_told (listed_with before entry.key entry.reader) (n + 1) (known_with known entry.key n) rest m are
     (and_second _ _ all) is) (entry_of row) refl is
   where
-    token_of : (entry : Entry) → entry_of row ≡ Some entry → token_in row ≡ Some entry.token
-    token_of entry eq = token_is (token_in row) (owner_at (get (codes "owner") row)) (groups_at (get (codes "groups") row)) entry eq
+    key_of_row : (entry : Entry) → entry_of row ≡ Some entry → key_in row ≡ Some entry.key
+    key_of_row entry eq = key_is (key_in row) (owner_at (get (codes "owner") row)) (groups_at (get (codes "groups") row)) entry eq
 
-    by_token : TwiceIsToldBehind before n tokens rest m → (entry : Entry) (b : Bool) → entry_of row ≡ Some entry
-        → is_some (map.find (slice_cmp nat_cmp) entry.token before) ≡ b
-        → (if b then Err (Twice n) else readers_from (before ++ (entry.token, entry.reader) ∷ []) (n + 1) (entries_in rest)) ≡ Err (Twice m)
-        → first is_of_reader (faults_of_readers tokens n (item row rest)) ≡ Some (place.Reader m)
-    by_token told entry true eq found is =
-        here tokens n row rest m (fresh_row before tokens row entry true are eq found) (same_row n m is)
-    by_token told entry false eq found is =
-        behind tokens n row rest m (fresh_row before tokens row entry false are eq found)
-        (subst (λ token. first is_of_reader (faults_of_readers (with_row tokens token n) (n + 1) rest) ≡ Some (place.Reader m))
-        (sym (token_of entry eq))
-        (told entry (one_more before tokens entry.token entry.reader n (is_some_false _ found) are) is))
+    by_key : TwiceIsToldBehind before n known rest m → (entry : Entry) (b : Bool) → entry_of row ≡ Some entry
+        → comes_again before entry.key ≡ b
+        → (if b then Err (Twice n) else readers_from (listed_with before entry.key entry.reader) (n + 1) (entries_in rest)) ≡ Err (Twice m)
+        → first is_of_reader (faults_of_readers known n (item row rest)) ≡ Some (place.Reader m)
+    by_key told entry true eq found is =
+        here known n row rest m (fresh_row before known row entry true are eq found) (same_row n m is)
+    by_key told entry false eq found is =
+        behind known n row rest m (fresh_row before known row entry false are eq found)
+        (subst (λ key. first is_of_reader (faults_of_readers (with_reader known key n) (n + 1) rest) ≡ Some (place.Reader m))
+        (sym (key_of_row entry eq))
+        (told entry (one_more before known entry.key entry.reader n are) is))
 
-    by : TwiceIsToldBehind before n tokens rest m → (entry : Option Entry) → entry_of row ≡ entry
+    by : TwiceIsToldBehind before n known rest m → (entry : Option Entry) → entry_of row ≡ entry
         → readers_from before n (kept entry (entries_in rest)) ≡ Err (Twice m)
-        → first is_of_reader (faults_of_readers tokens n (item row rest)) ≡ Some (place.Reader m)
+        → first is_of_reader (faults_of_readers known n (item row rest)) ≡ Some (place.Reader m)
     by told None eq is = absurd (clash (is_some (entry_of row)) (and_first _ _ all) (ap is_some eq))
-    by told (Some entry) eq is = by_token told entry (is_some (map.find (slice_cmp nat_cmp) entry.token before)) eq refl is
+    by told (Some entry) eq is = by_key told entry (comes_again before entry.key) eq refl is
 
 -- ---- the document
 
@@ -121,7 +120,7 @@ never found n (item row rest) m is = by (λ entry. never (found ++ entry ∷ [])
 
 -- what readers are refused for, by their rows
 rows_twice : (rows : Items) (m : ℕ) → readers_of_entries (entries_from [] 1 rows) ≡ Err (Twice m)
-    → first is_of_reader (faults_of_readers map.empty 1 rows) ≡ Some (place.Reader m)
+    → first is_of_reader (faults_of_readers nobody_known 1 rows) ≡ Some (place.Reader m)
 rows_twice rows m is = by (each is_reader rows) refl
   where
     refused : (entries : Result (List Entry) ReadersError) → is_ok entries ≡ false → readers_of_entries entries ≡ Err (Twice m)
@@ -129,9 +128,9 @@ rows_twice rows m is = by (each is_reader rows) refl
     refused (Ok entries) bad is = cc
     refused (Err e) bad is = cc
 
-    by : (b : Bool) → each is_reader rows ≡ b → first is_of_reader (faults_of_readers map.empty 1 rows) ≡ Some (place.Reader m)
+    by : (b : Bool) → each is_reader rows ≡ b → first is_of_reader (faults_of_readers nobody_known 1 rows) ≡ Some (place.Reader m)
     by true all =
-        twice_told [] 1 map.empty rows m (λ token. ap is_some (map.get-empty (slice_cmp nat_cmp) token)) all
+        twice_told none_listed 1 nobody_known rows m none_known all
         (sym (ap readers_of_entries (entries_are [] 1 rows all)) ∙ is)
     by false bad = absurd (never [] 1 rows m (refused (entries_from [] 1 rows) (entries_taken [] 1 rows ∙ bad) is))
 
@@ -165,7 +164,7 @@ of_readers (Err other) document e is = cc
 of_readers (Ok readers) document e is =
     absurd (settings_never readers (settings_in document) (tables_at (get_member (codes "page") document)) e is)
 
-pub of_table : (readers : Result (List (List ℕ × Reader)) ReadersError) (e : ReadersError) → table_of readers ≡ Err e → readers ≡ Err e
+pub of_table : (readers : Result Listed ReadersError) (e : ReadersError) → table_of readers ≡ Err e → readers ≡ Err e
 of_table (Ok readers) e is = cc
 of_table (Err other) e is = cc
 
@@ -174,15 +173,15 @@ pub twice_is_told : (document : Members) (n : ℕ) → config_of_document docume
 twice_is_told document n is =
     first_of_rows is_of_reader document refl refl refl refl (place.Reader n)
     (first_append (λ finding. is_of_reader finding.place)
-    (faults_of_readers map.empty 1 (rows_at (codes "reader") document) ++ faults_of_pages 1 (rows_at (codes "page") document))
+    (faults_of_readers nobody_known 1 (rows_at (codes "reader") document) ++ faults_of_pages 1 (rows_at (codes "page") document))
     (faults_of_folders 1 (rows_at (codes "folder") document))
     ∙ ap (λ one. option_or one (first is_of_reader (faults_of_folders 1 (rows_at (codes "folder") document))))
-    (first_append (λ finding. is_of_reader finding.place) (faults_of_readers map.empty 1 (rows_at (codes "reader") document))
+    (first_append (λ finding. is_of_reader finding.place) (faults_of_readers nobody_known 1 (rows_at (codes "reader") document))
     (faults_of_pages 1 (rows_at (codes "page") document))
     ∙ ap (λ one. option_or one (first is_of_reader (faults_of_pages 1 (rows_at (codes "page") document))))
     (by_tables (tables_at (get_member (codes "reader") document)) (of_readers (readers_of_document document) document (Twice n) is))))
   where
     by_tables : (tables : Option Items) → table_of (readers_of_entries (entries_of (reader_tables tables))) ≡ Err (Twice n)
-        → first is_of_reader (faults_of_readers map.empty 1 (rows_of tables)) ≡ Some (place.Reader n)
+        → first is_of_reader (faults_of_readers nobody_known 1 (rows_of tables)) ≡ Some (place.Reader n)
     by_tables None is = cc
     by_tables (Some rows) is = rows_twice rows n (of_table (readers_of_entries (entries_from [] 1 rows)) (Twice n) is)

@@ -1,38 +1,37 @@
 -- The reader whose row is bad is the first of which a fault is told, but that an earlier reader has a token.
 use Rattle.std.proofs.Common.{◌≡◌, ◌+◌, ℕ, List, [], ◌∷◌, ◌++◌, Bool, true, false, not, ◌&&◌, is_some, cond, codes, refl, ap, ◌∙◌}
 use Rattle.std.specs.Prelude.{Option, Some, None, Result, Ok, Err, option_map, if◌then◌else◌}
-use Rattle.std.specs.FinMap as map
-use Rattle.std.specs.Cmp.Lexicographic.{slice_cmp}
 use Rattle.std.specs.List.{find}
 use Rattle.std.specs.Option.{option_or}
-use Rattle.std.specs.Ordering.{nat_cmp}
 use Rattle.toml.specs.Data.{Data, Items, no_items, item, Members, as_str, get, get_member}
 use Rattle.doc_store_readers.specs.declared.entries.Entry.{Entry}
 use Rattle.doc_store_readers.specs.declared.groups.GroupsError.{GroupsError}
 use Rattle.doc_store_readers.specs.declared.groups.GroupsError.TheVariants as refusals
-use Rattle.doc_store_readers.specs.declared.reader.Reader.{Reader}
 use Rattle.doc_store_readers.specs.declared.readers.ReadersError.{ReadersError}
 use Rattle.doc_store_readers.specs.declared.readers.ReadersError.TheVariants.{BadRow, Twice}
 use Rattle.doc_store_readers.specs.Groups.{groups_of_names}
-use Rattle.doc_store_readers.specs.Readers.{entries_from, entries_of, entry_of, reader_tables, readers_from, readers_of_document}
+use Rattle.doc_store_readers.specs.Keys.{key_in}
+use Rattle.doc_store_readers.specs.Readers.{Listed, comes_again, entries_from, entries_of, entry_of, listed_with, none_listed, reader_tables}
+use Rattle.doc_store_readers.specs.Readers.{readers_from, readers_of_document}
 use Rattle.doc_store_readers.specs.Readers.{readers_of_entries, table_of, tables_at}
-use Rattle.doc_store_readers.specs.Readers.{token_in}
 use Rattle.doc_server_config.specs.declared.config.ConfigError.TheVariants.{BadReaders}
 use Rattle.doc_server_config.specs.Configurations.{config_of_document}
 use Rattle.doc_server_lint.specs.declared.finding.Finding.{Finding}
 use Rattle.doc_server_lint.specs.declared.place.Place.{Place}
 use Rattle.doc_server_lint.specs.declared.place.Place.TheVariants as place
+use Rattle.doc_server_lint.specs.declared.known_readers.KnownReaders.{KnownReaders}
+use Rattle.doc_server_lint.specs.declared.rule.Form.{Form}
 use Rattle.doc_server_lint.specs.declared.rule.Form.TheVariants as form
 use Rattle.doc_server_lint.specs.declared.rule.Rule.TheVariants as rule
 use Rattle.doc_server_lint.specs.declared.what.What.{What}
 use Rattle.doc_server_lint.specs.declared.what.What.TheVariants.{TokenOf}
-use Rattle.doc_server_lint.specs.Faults.{Rows, faults_of, faults_of_folders, faults_of_held, faults_of_keys, faults_of_pages}
-use Rattle.doc_server_lint.specs.Faults.{faults_of_reader}
-use Rattle.doc_server_lint.specs.Faults.{faults_of_readers, faults_of_rows, faults_of_tables, finding_of, row_of, rows_at, rows_of}
-use Rattle.doc_server_lint.specs.Faults.{with_row}
+use Rattle.doc_server_lint.specs.Faults.{faults_of, faults_of_folders, faults_of_held, faults_of_key_again, faults_of_keys, faults_of_pages}
+use Rattle.doc_server_lint.specs.Faults.{faults_of_reader, faults_of_row, known_at, naming_fault, naming_key, nobody_known}
+use Rattle.doc_server_lint.specs.Faults.{faults_of_readers, faults_of_rows, faults_of_tables, finding_of, rows_at, rows_of}
+use Rattle.doc_server_lint.specs.Faults.{with_reader}
 use Rattle.doc_server_lint.specs.Findings.{findings_of}
 use Rattle.doc_server_lint.specs.Laws.{first_refusal, is_again, is_clear, is_of_reader, is_refusal}
-use Rattle.doc_server_lint.specs.Rules.{browse_keys, listen_keys, markdown_keys, reader_keys, top_keys}
+use Rattle.doc_server_lint.specs.Rules.{browse_keys, listen_keys, markdown_keys, top_keys}
 use Rattle.doc_server_lint.specs.Values.{form_told, group_told, groups_fault, is_form, key_fault, refused_groups, strings_of, text_fault}
 use Rattle.doc_server_lint.specs.Values.{told}
 use Rattle.doc_server_lint.specs.Warnings.{warnings_of}
@@ -55,13 +54,23 @@ told_apart : (what : What) (good : Bool) → is_again what ≡ false → tells_a
 told_apart what true is = refl
 told_apart what false is = is
 
-token_apart : (held : Option Data) → tells_again (key_fault (rule.Needed form.Token) held) ≡ false
+text_apart : (form : Form) (text : Option (List ℕ)) → is_again (form_told form) ≡ false → tells_again (text_fault form text) ≡ false
+text_apart form None is = refl
+text_apart form (Some text) is = told_apart (form_told form) (is_form form text) is
+
+token_apart : (held : Option Data) → tells_again (key_fault (rule.Text form.Token) held) ≡ false
 token_apart None = refl
-token_apart (Some value) = by (as_str value)
-  where
-    by : (text : Option (List ℕ)) → tells_again (text_fault form.Token text) ≡ false
-    by None = refl
-    by (Some text) = told_apart (form_told form.Token) (is_form form.Token text) refl
+token_apart (Some value) = text_apart form.Token (as_str value) refl
+
+digest_apart : (held : Option Data) → tells_again (key_fault (rule.Text form.Digest) held) ≡ false
+digest_apart None = refl
+digest_apart (Some value) = text_apart form.Digest (as_str value) refl
+
+naming_apart : (token digest : Option Data) → tells_again (naming_fault token digest) ≡ false
+naming_apart None None = refl
+naming_apart (Some token) None = refl
+naming_apart None (Some digest) = refl
+naming_apart (Some token) (Some digest) = refl
 
 owner_apart : (held : Option Data) → tells_again (key_fault rule.Boolean held) ≡ false
 owner_apart None = refl
@@ -95,16 +104,22 @@ finding_own : (n : ℕ) (key : Option (List ℕ)) (what : Option What) → tells
 finding_own n key None is = tt
 finding_own n key (Some what) is = ((ap not is, refl), tt)
 
-keys_own : (n : ℕ) (row : Data) → Each (IsOwnAt n) (faults_of_keys (place.Reader n) reader_keys (λ key. get key row))
-keys_own n row =
-    each_append (IsOwnAt n) (finding_of true (place.Reader n) (Some (codes "token")) (key_fault (rule.Needed form.Token) (get
+row_own : (n : ℕ) (row : Data) → Each (IsOwnAt n) (faults_of_row n row)
+row_own n row =
+    each_append (IsOwnAt n) (finding_of true (place.Reader n) (Some (codes "token")) (naming_fault (get (codes "token") row) (get
+    (codes "token_sha256") row))) _
+    (finding_own n (Some (codes "token")) _ (naming_apart (get (codes "token") row) (get (codes "token_sha256") row)))
+    (each_append (IsOwnAt n) (finding_of true (place.Reader n) (Some (codes "token")) (key_fault (rule.Text form.Token) (get
     (codes "token") row))) _
     (finding_own n (Some (codes "token")) _ (token_apart (get (codes "token") row)))
+    (each_append (IsOwnAt n) (finding_of true (place.Reader n) (Some (codes "token_sha256")) (key_fault (rule.Text form.Digest) (get
+    (codes "token_sha256") row))) _
+    (finding_own n (Some (codes "token_sha256")) _ (digest_apart (get (codes "token_sha256") row)))
     (each_append (IsOwnAt n) (finding_of true (place.Reader n) (Some (codes "owner")) (key_fault rule.Boolean (get (codes "owner") row))) _
     (finding_own n (Some (codes "owner")) _ (owner_apart (get (codes "owner") row)))
     (each_append (IsOwnAt n) (finding_of true (place.Reader n) (Some (codes "groups")) (key_fault rule.Groups (get
     (codes "groups") row))) []
-    (finding_own n (Some (codes "groups")) _ (held_apart (get (codes "groups") row))) tt))
+    (finding_own n (Some (codes "groups")) _ (held_apart (get (codes "groups") row))) tt))))
 
 own_here : (n : ℕ) (found : List Finding) → Each (IsOwnAt n) found → is_clear found ≡ false
     → first_refusal own found ≡ Some (place.Reader n)
@@ -119,81 +134,80 @@ own_here n (finding ∷ found) each bad = by (is_refusal finding) (own finding) 
     by true true rest holds bad = ap Some each.0.1
     by false true rest holds bad = rest bad
 
-again_apart : (n : ℕ) (earlier : Option ℕ)
-    → first_refusal own (finding_of true (place.Reader n) (Some (codes "token")) (option_map TokenOf earlier)) ≡ None
-again_apart n None = refl
-again_apart n (Some m) = refl
+again_apart : (n : ℕ) (key : List ℕ) (earlier : Option ℕ)
+    → first_refusal own (finding_of true (place.Reader n) (Some key) (option_map TokenOf earlier)) ≡ None
+again_apart n key None = refl
+again_apart n key (Some m) = refl
 
-module _ (tokens : Rows) (n : ℕ) (row : Data) (rest : Items) where
-  abbrev keys : List Finding
-  keys = faults_of_keys (place.Reader n) reader_keys (λ key. get key row)
+module _ (known : KnownReaders) (n : ℕ) (row : Data) (rest : Items) where
+  abbrev alone : List Finding
+  alone = faults_of_row n row
 
   abbrev more : List Finding
-  more = faults_of_readers (with_row tokens (token_in row) n) (n + 1) rest
+  more = faults_of_readers (with_reader known (key_in row) n) (n + 1) rest
 
-  reader_first : first_refusal own (faults_of_reader tokens n row) ≡ option_or (first_refusal own keys) None
+  reader_first : first_refusal own (faults_of_reader known n row) ≡ option_or (first_refusal own alone) None
   reader_first =
-      first_append own keys (finding_of true (place.Reader n) (Some (codes "token")) (option_map TokenOf (row_of tokens (token_in row))))
-      ∙ ap (option_or (first_refusal own keys)) (again_apart n (row_of tokens (token_in row)))
+      first_append own alone (faults_of_key_again known n (key_in row))
+      ∙ ap (option_or (first_refusal own alone)) (again_apart n (naming_key (key_in row)) (known_at known (key_in row)))
 
-  own_bad : is_some (entry_of row) ≡ false → first_refusal own (faults_of_readers tokens n (item row rest)) ≡ Some (place.Reader n)
+  own_bad : is_some (entry_of row) ≡ false → first_refusal own (faults_of_readers known n (item row rest)) ≡ Some (place.Reader n)
   own_bad bad =
-      first_append own (faults_of_reader tokens n row) more
+      first_append own (faults_of_reader known n row) more
       ∙ ap (λ one. option_or one (first_refusal own more))
-      (reader_first ∙ ap (λ one. option_or one None) (own_here n keys (keys_own n row) (reader_entry n row ∙ bad)))
+      (reader_first ∙ ap (λ one. option_or one None) (own_here n alone (row_own n row) (reader_entry n row ∙ bad)))
 
-  own_good : is_some (entry_of row) ≡ true → first_refusal own (faults_of_readers tokens n (item row rest)) ≡ first_refusal own more
+  own_good : is_some (entry_of row) ≡ true → first_refusal own (faults_of_readers known n (item row rest)) ≡ first_refusal own more
   own_good good =
-      first_append own (faults_of_reader tokens n row) more
+      first_append own (faults_of_reader known n row) more
       ∙ ap (λ one. option_or one (first_refusal own more))
-      (reader_first ∙ ap (λ one. option_or one None) (none_of_clear own keys (reader_entry n row ∙ good)))
+      (reader_first ∙ ap (λ one. option_or one None) (none_of_clear own alone (reader_entry n row ∙ good)))
 
 same_row : (m n : ℕ) → ◌≡◌ {A = Result (List Entry) ReadersError} (Err (BadRow m)) (Err (BadRow n)) → m ≡ n
 same_row m n is = cc
 
-bad_row_told : (found : List Entry) (tokens : Rows) (n : ℕ) (rows : Items) (m : ℕ) → entries_from found n rows ≡ Err (BadRow m)
-    → first_refusal own (faults_of_readers tokens n rows) ≡ Some (place.Reader m)
-bad_row_told found tokens n no_items m is = cc
-bad_row_told found tokens n (item row rest) m is =
-    by (entry_of row) refl (λ entry. bad_row_told (found ++ entry ∷ []) (with_row tokens (token_in row) n) (n + 1) rest m) is
+bad_row_told : (found : List Entry) (known : KnownReaders) (n : ℕ) (rows : Items) (m : ℕ) → entries_from found n rows ≡ Err (BadRow m)
+    → first_refusal own (faults_of_readers known n rows) ≡ Some (place.Reader m)
+bad_row_told found known n no_items m is = cc
+bad_row_told found known n (item row rest) m is =
+    by (entry_of row) refl (λ entry. bad_row_told (found ++ entry ∷ []) (with_reader known (key_in row) n) (n + 1) rest m) is
   where
     by : (entry : Option Entry) → entry_of row ≡ entry
         → ((entry : Entry) → entries_from (found ++ entry ∷ []) (n + 1) rest ≡ Err (BadRow m)
-        → first_refusal own (faults_of_readers (with_row tokens (token_in row) n) (n + 1) rest) ≡ Some (place.Reader m))
+        → first_refusal own (faults_of_readers (with_reader known (key_in row) n) (n + 1) rest) ≡ Some (place.Reader m))
         → elim entry as (λ _. Result (List Entry) ReadersError) [
           | None ↦ Err (BadRow n)
           | Some entry ↦ entries_from (found ++ entry ∷ []) (n + 1) rest
         ] ≡ Err (BadRow m)
-        → first_refusal own (faults_of_readers tokens n (item row rest)) ≡ Some (place.Reader m)
-    by None eq told is = own_bad tokens n row rest (ap is_some eq) ∙ ap (λ k. Some (place.Reader k)) (same_row n m is)
-    by (Some entry) eq told is = own_good tokens n row rest (ap is_some eq) ∙ told entry is
+        → first_refusal own (faults_of_readers known n (item row rest)) ≡ Some (place.Reader m)
+    by None eq told is = own_bad known n row rest (ap is_some eq) ∙ ap (λ k. Some (place.Reader k)) (same_row n m is)
+    by (Some entry) eq told is = own_good known n row rest (ap is_some eq) ∙ told entry is
 
 -- ---- the document
 
-readers_never : (before : List (List ℕ × Reader)) (k : ℕ) (entries : List Entry) (m : ℕ)
+readers_never : (before : Listed) (k : ℕ) (entries : List Entry) (m : ℕ)
     → readers_from before k entries ≡ Err (BadRow m) → ⊥
 readers_never before k [] m is = cc
 readers_never before k (entry ∷ rest) m is =
-    by (is_some (map.find (slice_cmp nat_cmp) entry.token before)) (readers_never (before
-    ++ (entry.token, entry.reader) ∷ []) (k + 1) rest m) is
+    by (comes_again before entry.key) (readers_never (listed_with before entry.key entry.reader) (k + 1) rest m) is
   where
-    by : (b : Bool) → (readers_from (before ++ (entry.token, entry.reader) ∷ []) (k + 1) rest ≡ Err (BadRow m) → ⊥)
-        → (if b then Err (Twice k) else readers_from (before ++ (entry.token, entry.reader) ∷ []) (k + 1) rest) ≡ Err (BadRow m) → ⊥
+    by : (b : Bool) → (readers_from (listed_with before entry.key entry.reader) (k + 1) rest ≡ Err (BadRow m) → ⊥)
+        → (if b then Err (Twice k) else readers_from (listed_with before entry.key entry.reader) (k + 1) rest) ≡ Err (BadRow m) → ⊥
     by true never is = cc
     by false never is = never is
 
-refused : (e : ReadersError) {m : ℕ} → ◌≡◌ {A = Result (List (List ℕ × Reader)) ReadersError} (Err e) (Err (BadRow m))
+refused : (e : ReadersError) {m : ℕ} → ◌≡◌ {A = Result Listed ReadersError} (Err e) (Err (BadRow m))
     → ◌≡◌ {A = Result (List Entry) ReadersError} (Err e) (Err (BadRow m))
 refused e is = cc
 
 rows_bad : (rows : Items) (m : ℕ) → readers_of_entries (entries_from [] 1 rows) ≡ Err (BadRow m)
-    → first_refusal own (faults_of_readers map.empty 1 rows) ≡ Some (place.Reader m)
+    → first_refusal own (faults_of_readers nobody_known 1 rows) ≡ Some (place.Reader m)
 rows_bad rows m is = by (entries_from [] 1 rows) refl is
   where
     by : (entries : Result (List Entry) ReadersError) → entries_from [] 1 rows ≡ entries → readers_of_entries entries ≡ Err (BadRow m)
-        → first_refusal own (faults_of_readers map.empty 1 rows) ≡ Some (place.Reader m)
-    by (Ok entries) eq is = absurd (readers_never [] 1 entries m is)
-    by (Err e) eq is = bad_row_told [] map.empty 1 rows m (eq ∙ refused e is)
+        → first_refusal own (faults_of_readers nobody_known 1 rows) ≡ Some (place.Reader m)
+    by (Ok entries) eq is = absurd (readers_never none_listed 1 entries m is)
+    by (Err e) eq is = bad_row_told [] nobody_known 1 rows m (eq ∙ refused e is)
 
 none_off : (place : Place) (found : List Finding) → is_of_reader place ≡ false → AreAt place found → first_refusal own found ≡ None
 none_off place [] is are = refl
@@ -215,7 +229,7 @@ bad_row_is_told document n is =
     let markdown = faults_of_held place.Markdown markdown_keys (at (codes "markdown")) in
     let listen = faults_of_held place.Listen listen_keys (at (codes "listen")) in
     let browse = faults_of_held place.Browse browse_keys (at (codes "browse")) in
-    let readers = faults_of_readers map.empty 1 (rows_at (codes "reader") document) in
+    let readers = faults_of_readers nobody_known 1 (rows_at (codes "reader") document) in
     let pages = faults_of_pages 1 (rows_at (codes "page") document) in
     let folders = faults_of_folders 1 (rows_at (codes "folder") document) in
     let none_top = none_off place.Document top refl (keys_at_place place.Document top_keys at) in
@@ -237,6 +251,6 @@ bad_row_is_told document n is =
     ∙ ap (λ one. option_or one (first_refusal own pages)) told))
   where
     by_tables : (tables : Option Items) → table_of (readers_of_entries (entries_of (reader_tables tables))) ≡ Err (BadRow n)
-        → first_refusal own (faults_of_readers map.empty 1 (rows_of tables)) ≡ Some (place.Reader n)
+        → first_refusal own (faults_of_readers nobody_known 1 (rows_of tables)) ≡ Some (place.Reader n)
     by_tables None is = cc
     by_tables (Some rows) is = rows_bad rows n (of_table (readers_of_entries (entries_from [] 1 rows)) (BadRow n) is)

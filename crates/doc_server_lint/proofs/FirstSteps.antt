@@ -4,16 +4,18 @@ use Rattle.std.specs.Prelude.{Option, Some, None, option_map, if◌then◌else�
 use Rattle.std.specs.List.{find, flat_map}
 use Rattle.std.specs.Option.{option_or}
 use Rattle.toml.specs.Data.{Data, Items, no_items, item, Members, get, as_table}
-use Rattle.doc_store_readers.specs.Readers.{token_in}
+use Rattle.doc_store_readers.specs.Keys.{key_in}
 use Rattle.doc_server_config.specs.Keys.{is_one_of, keys_in}
 use Rattle.doc_server_lint.specs.declared.finding.Finding.{Finding}
 use Rattle.doc_server_lint.specs.declared.place.Place.{Place}
 use Rattle.doc_server_lint.specs.declared.place.Place.TheVariants as place
 use Rattle.doc_server_lint.specs.declared.what.What.{What}
 use Rattle.doc_server_lint.specs.declared.what.What.TheVariants.{TokenOf, Unknown}
-use Rattle.doc_server_lint.specs.Faults.{Rows, fault_of_key, faults_of_closed, faults_of_held, faults_of_keys, faults_of_page}
+use Rattle.doc_server_lint.specs.declared.known_readers.KnownReaders.{KnownReaders}
+use Rattle.doc_server_lint.specs.Faults.{fault_of_key, faults_of_closed, faults_of_held, faults_of_keys, faults_of_page}
 use Rattle.doc_server_lint.specs.Faults.{faults_of_pages}
-use Rattle.doc_server_lint.specs.Faults.{faults_of_reader, faults_of_readers, finding_of, row_of, source_fault, with_row}
+use Rattle.doc_server_lint.specs.Faults.{faults_of_reader, faults_of_readers, faults_of_row, finding_of, known_at, naming_fault, naming_key}
+use Rattle.doc_server_lint.specs.Faults.{source_fault, with_reader}
 use Rattle.doc_server_lint.specs.Laws.{first_refusal, is_clear, is_refusal}
 use Rattle.doc_server_lint.specs.Rules.{Keys, names_of, page_keys, reader_keys}
 use Rattle.doc_server_lint.specs.Unknown.{meant, unknown_in, unknown_in_table, unknown_key}
@@ -127,21 +129,27 @@ page_at n row =
     (keys_at_place (place.Page n) page_keys (λ key. get key row))
     (finding_at true (place.Page n) None (source_fault (get (codes "text") row) (get (codes "file") row)))
 
-pub reader_at : (tokens : Rows) (n : ℕ) (row : Data) → AreAt (place.Reader n) (faults_of_reader tokens n row)
-reader_at tokens n row =
-    each_append (λ finding. finding.place ≡ place.Reader n) (faults_of_keys (place.Reader n) reader_keys (λ key. get key row)) _
+row_at : (n : ℕ) (row : Data) → AreAt (place.Reader n) (faults_of_row n row)
+row_at n row =
+    each_append (λ finding. finding.place ≡ place.Reader n)
+    (finding_of true (place.Reader n) (Some (codes "token")) (naming_fault (get (codes "token") row) (get (codes "token_sha256") row))) _
+    (finding_at true (place.Reader n) (Some (codes "token")) (naming_fault (get (codes "token") row) (get (codes "token_sha256") row)))
     (keys_at_place (place.Reader n) reader_keys (λ key. get key row))
-    (finding_at true (place.Reader n) (Some (codes "token")) (option_map TokenOf (row_of tokens (token_in row))))
+
+pub reader_at : (known : KnownReaders) (n : ℕ) (row : Data) → AreAt (place.Reader n) (faults_of_reader known n row)
+reader_at known n row =
+    each_append (λ finding. finding.place ≡ place.Reader n) (faults_of_row n row) _ (row_at n row)
+    (finding_at true (place.Reader n) (Some (naming_key (key_in row))) (option_map TokenOf (known_at known (key_in row))))
 
 -- ---- where nothing of a kind is told
 
-pub no_readers : (test : Place → Bool) → ((n : ℕ) → test (place.Reader n) ≡ false) → (tokens : Rows) (n : ℕ) (rows : Items)
-    → first_refusal (λ finding. test finding.place) (faults_of_readers tokens n rows) ≡ None
-no_readers test is tokens n no_items = refl
-no_readers test is tokens n (item row rest) =
-    let here = none_elsewhere test (place.Reader n) (faults_of_reader tokens n row) (is n) (reader_at tokens n row) in
-    first_append (λ finding. test finding.place) (faults_of_reader tokens n row) _
-    ∙ (λ i. option_or (here i) (no_readers test is (with_row tokens (token_in row) n) (n + 1) rest i))
+pub no_readers : (test : Place → Bool) → ((n : ℕ) → test (place.Reader n) ≡ false) → (known : KnownReaders) (n : ℕ)
+    (rows : Items) → first_refusal (λ finding. test finding.place) (faults_of_readers known n rows) ≡ None
+no_readers test is known n no_items = refl
+no_readers test is known n (item row rest) =
+    let here = none_elsewhere test (place.Reader n) (faults_of_reader known n row) (is n) (reader_at known n row) in
+    first_append (λ finding. test finding.place) (faults_of_reader known n row) _
+    ∙ (λ i. option_or (here i) (no_readers test is (with_reader known (key_in row) n) (n + 1) rest i))
 
 pub no_pages : (test : Place → Bool) → ((n : ℕ) → test (place.Page n) ≡ false) → (n : ℕ) (rows : Items)
     → first_refusal (λ finding. test finding.place) (faults_of_pages n rows) ≡ None

@@ -12,5 +12,6 @@ pub mod FirstSteps
 pub mod KeySteps
 pub mod LineSteps
 mod LintExamples
+pub mod ReaderSteps
 pub mod ReportSteps
 pub mod RowSteps

@@ -7,7 +7,7 @@ use Rattle.doc_server_lint.specs.declared.place.Place.TheVariants.{Document, Mar
 use Rattle.doc_server_lint.specs.declared.what.Kind.{Kind}
 use Rattle.doc_server_lint.specs.declared.what.Kind.TheVariants as kind
 use Rattle.doc_server_lint.specs.declared.what.What.{What}
-use Rattle.doc_server_lint.specs.declared.what.What.TheVariants.{MustBe, Bad, Missing, Unknown, NoToken, TokenOf, ShortToken, NoReaders}
+use Rattle.doc_server_lint.specs.declared.what.What.TheVariants.{MustBe, Bad, Missing, Unknown, NoToken, TwoTokens, TokenOf, ShortToken, NoReaders}
 use Rattle.doc_server_lint.specs.declared.what.What.TheVariants.{NoOwner}
 use Rattle.doc_server_lint.specs.declared.what.What.TheVariants.{NoGroup, ManyGroups, Unheld, NoPath, NoSource, TwoSources, LongText}
 use Rattle.doc_server_lint.specs.declared.what.What.TheVariants.{Covers}
@@ -43,6 +43,7 @@ what_text key Bad = named (codes "`") key (codes "` is bad")
 what_text key Missing = named (codes "no `") key (codes "`")
 what_text key (Unknown other) = named (codes "unknown key `") key (codes "`") ++ meant_text other
 what_text key NoToken = named (codes "`") key (codes "` is no bearer token")
+what_text key TwoTokens = codes "both `token` and `token_sha256`"
 what_text key (TokenOf reader) = numbered (codes "the token of reader ") reader []
 what_text key ShortToken = codes "a token of fewer than 22 characters can be guessed"
 what_text key NoReaders = codes "no readers"

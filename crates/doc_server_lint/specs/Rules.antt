@@ -38,7 +38,8 @@ browse_keys =
     ∷ (codes "login", Text form.Login) ∷ (codes "editing", Boolean) ∷ []
 
 abbrev pub reader_keys : Keys
-reader_keys = (codes "token", Needed form.Token) ∷ (codes "owner", Boolean) ∷ (codes "groups", Groups) ∷ []
+reader_keys =
+    (codes "token", Text form.Token) ∷ (codes "token_sha256", Text form.Digest) ∷ (codes "owner", Boolean) ∷ (codes "groups", Groups) ∷ []
 
 abbrev pub page_keys : Keys
 page_keys =

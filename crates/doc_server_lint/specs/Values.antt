@@ -9,6 +9,7 @@ use Rattle.doc_people.specs.Settings.{is_language, is_title}
 use Rattle.doc_store_readers.specs.declared.groups.GroupsError.{GroupsError}
 use Rattle.doc_store_readers.specs.declared.groups.GroupsError.TheVariants as refusals
 use Rattle.doc_store_readers.specs.Groups.{groups_of_names, is_group}
+use Rattle.doc_store_readers.specs.Keys.{digest_of_text}
 use Rattle.doc_store_readers.specs.Readers.{strings_in, tables_of}
 use Rattle.doc_server_config.specs.Bounds.{within}
 use Rattle.doc_server_config.specs.Excepted.{are_folder_names}
@@ -17,7 +18,7 @@ use Rattle.doc_server_config.specs.FolderRules.{nfc_of, skips_of}
 use Rattle.doc_server_config.specs.Markdown.{matter_of}
 use Rattle.doc_server_config.specs.MediaNames.{media_of}
 use Rattle.doc_server_lint.specs.declared.rule.Form.{Form}
-use Rattle.doc_server_lint.specs.declared.rule.Form.TheVariants.{Any, Token, PagePath, PageText, Title, Language, Home, Login, Matter}
+use Rattle.doc_server_lint.specs.declared.rule.Form.TheVariants.{Any, Token, Digest, PagePath, PageText, Title, Language, Home, Login, Matter}
 use Rattle.doc_server_lint.specs.declared.rule.Form.TheVariants.{Prefix, Names, OnBad}
 use Rattle.doc_server_lint.specs.declared.rule.Rule.{Rule}
 use Rattle.doc_server_lint.specs.declared.rule.Rule.TheVariants.{Boolean, Integer, Text, Needed, Groups, Except, Media, Table, Tables}
@@ -35,6 +36,7 @@ told what good = if good then None else Some what
 abbrev pub is_form : Form → List ℕ → Bool
 is_form Any text = true
 is_form Token text = is_token text
+is_form Digest text = is_some (digest_of_text text)
 is_form PagePath text = is_path text
 is_form PageText text = nat_le (length text) 1048576
 is_form Title text = is_title text

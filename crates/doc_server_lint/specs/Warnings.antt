@@ -4,7 +4,10 @@ use Rattle.std.specs.Prelude.{if◌then◌else◌}
 use Rattle.std.specs.FinMap as map
 use Rattle.std.specs.List.{flat_map}
 use Rattle.toml.specs.Data.{Data, Items, no_items, item, Members, get, get_member}
-use Rattle.doc_store_readers.specs.Readers.{groups_at, owner_at, token_in}
+use Rattle.doc_store_readers.specs.Keys.{key_in}
+use Rattle.doc_store_readers.specs.Readers.{groups_at, owner_at}
+use Rattle.doc_store_readers.specs.declared.keys.Key.{Key}
+use Rattle.doc_store_readers.specs.declared.keys.Key.TheVariants as keys
 use Rattle.doc_server_config.specs.PageRows.{path_at}
 use Rattle.doc_server_lint.specs.declared.finding.Finding.{Finding}
 use Rattle.doc_server_lint.specs.declared.place.Place.{Place}
@@ -33,14 +36,15 @@ abbrev pub owners_warning : Items → Option What
 owners_warning rows = if count_items rows == 0 then Some NoReaders else told NoOwner (has_owner rows)
 
 -- 22 characters of 64 are 132 bits
-abbrev pub token_warning : Option (List ℕ) → Option What
+abbrev pub token_warning : Option Key → Option What
 token_warning None = None
-token_warning (Some token) = told ShortToken (nat_le 22 (length token))
+token_warning (Some (keys.Token token)) = told ShortToken (nat_le 22 (length token))
+token_warning (Some (keys.Digest digest)) = None
 
 abbrev pub warnings_of_reader : ℕ → Data → List Finding
 warnings_of_reader n row =
     unknown_in false (Reader n) (names_of reader_keys) row
-    ++ finding_of false (Reader n) (Some (codes "token")) (token_warning (token_in row))
+    ++ finding_of false (Reader n) (Some (codes "token")) (token_warning (key_in row))
 
 abbrev pub warnings_of_readers : ℕ → Items → List Finding
 warnings_of_readers n no_items = []

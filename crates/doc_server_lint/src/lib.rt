@@ -5,12 +5,14 @@
 //! of a row is the row's. What files tell no contract can say: whoever reads them adds findings of these types.
 #![tactic(auto)]
 
+mod digests;
 mod faults;
 pub mod finding;
 pub mod findings;
 mod folder_faults;
 mod group_name;
 mod held_groups;
+mod known_readers;
 pub mod laws;
 pub mod line;
 pub mod order;

@@ -1,15 +1,17 @@
 //! What of readers may be meant otherwise.
 
-ghost use Rattle.std.specs.Prelude.{◌≡◌, ◌++◌, OnOk, codes};
-ghost use Rattle.toml.specs.Data.{get};
+ghost use Rattle.std.specs.Prelude.{◌≡◌, ◌++◌, OnOk, codes, option_map};
+ghost use Rattle.toml.specs.Data.{as_str, get};
 ghost use Rattle.toml.specs.View.{items_view, view};
-ghost use Rattle.doc_store_readers.specs.Readers.{owner_at, token_in};
+ghost use Rattle.doc_store_readers.specs.Keys.{good_token, key_in};
+ghost use Rattle.doc_store_readers.specs.Readers.{owner_at};
+ghost use Rattle.doc_store_readers.specs.declared.keys.Key.TheVariants as keys;
 ghost use Rattle.doc_server_lint.specs.Warnings.{has_owner, is_owner, owners_warning, token_warning, warnings_of_reader};
 ghost use Rattle.doc_server_lint.specs.Warnings.{warnings_of_readers};
 
 use crate::finding::Finding;
 use crate::place::Place;
-use crate::reader_faults::token_in;
+use crate::reader_faults::token_of;
 use crate::row_line::count;
 use crate::rule::READER_KEYS;
 use crate::table_faults::push_told;
@@ -88,9 +90,20 @@ fn push_warnings_of_reader(
 }
 
 fn token_warning(row: &Value) -> Option<What>
-    ensures { result ≡ token_warning (token_in (view row.now)) }
+    ensures { result ≡ token_warning (key_in (view row.now)) }
 {
-    if token_in(row)?.len() >= TOKEN_LENGTH {
+    match (row.get("token"), row.get("token_sha256")) {
+        (Some(token), None) => short_token(token),
+        (None, Some(_)) | (None, None) | (Some(_), Some(_)) => None,
+    }
+}
+
+/// What is told of a token that can be guessed.
+fn short_token(value: &Value) -> Option<What>
+    ensures { result ≡ token_warning
+        (option_map keys.Token (good_token (as_str (view value.now)))) }
+{
+    if token_of(value)?.len() >= TOKEN_LENGTH {
         return None;
     }
     Some(What::ShortToken)

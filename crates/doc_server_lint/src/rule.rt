@@ -6,6 +6,8 @@ pub enum Form {
     Any,
     /// A bearer token (RFC 6750, section 2.1).
     Token,
+    /// The SHA-256 of one (FIPS 180-4), 64 digits of `0-9` and `a-f`.
+    Digest,
     /// The path of a page.
     PagePath,
     /// The text of a page, which has its bound.
@@ -94,7 +96,8 @@ pub(crate) const BROWSE_KEYS: &[(&str, Rule)] = &[
 
 /// The keys of a reader.
 pub(crate) const READER_KEYS: &[(&str, Rule)] = &[
-    ("token", Rule::Needed(Form::Token)),
+    ("token", Rule::Text(Form::Token)),
+    ("token_sha256", Rule::Text(Form::Digest)),
     ("owner", Rule::Boolean),
     ("groups", Rule::Groups),
 ];

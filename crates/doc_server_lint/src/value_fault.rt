@@ -10,6 +10,7 @@ ghost use Rattle.doc_server_config.specs.Bounds.{within};
 ghost use Rattle.doc_server_lint.specs.Values.{except_fault, form_told, group_told, groups_fault, is_form, missing_fault, refused_groups};
 ghost use Rattle.doc_server_lint.specs.Values.{strings_of, text_fault, told, value_fault};
 
+use crate::digests::digest_of_text;
 use crate::group_name::first_bad_group;
 use crate::rule::{Form, Rule};
 use crate::tables::are_tables;
@@ -111,6 +112,7 @@ fn is_form(heap: Heap, form: Form, text: &str) -> Result<bool, Memory>
     match form {
         Form::Any => Ok(true),
         Form::Token => Ok(is_token(text.as_bytes())),
+        Form::Digest => Ok(digest_of_text(text).is_some()),
         Form::PagePath => is_path(heap, text),
         Form::PageText => Ok(text.len() <= TEXT_LIMIT),
         Form::Title => Ok(is_title(text)),

@@ -29,6 +29,8 @@ pub enum What {
     Unknown(Option<Text>),
     /// The key holds no bearer token (RFC 6750, section 2.1).
     NoToken,
+    /// A reader has both `token` and `token_sha256`.
+    TwoTokens,
     /// The reader of this number has the token.
     TokenOf(usize),
     /// The token has fewer than 22 characters.

@@ -39,6 +39,7 @@ pub(crate) fn push_what(out: &mut String, key: &str, what: &What) -> Result<(), 
         What::NoPath => push_named(out, "`", key, "` is no path of a page"),
         What::NoSource => push(out, "neither `text` nor `file`"),
         What::TwoSources => push(out, "both `text` and `file`"),
+        What::TwoTokens => push(out, "both `token` and `token_sha256`"),
         What::LongText => push_named(out, "`", key, "` has more than 1048576 bytes"),
         What::Covers(page) => push_numbered(
             out,

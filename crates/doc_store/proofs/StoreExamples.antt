@@ -17,7 +17,7 @@ use Rattle.doc_store.specs.declared.store.Put.TheVariants.{Created, Replaced}
 use Rattle.doc_store.proofs.StoreOnLists.{Entries, made, has-made, removed-made, len-none, len-more, store_of, no_page_on, taken_on}
 use Rattle.doc_store.proofs.StoreOnLists.{full_on, moved_on, put_on, removed_on, not_removed_on}
 use Rattle.doc_store_readers.specs.Pages.{Page}
-use Rattle.doc_store_readers.specs.Readers.{ReaderTable, set_reader}
+use Rattle.doc_store_readers.specs.Readers.{ReaderTable, set_reader, without_reader}
 use Rattle.doc_store.specs.Store.{StoreState, fits, put_into, without_page, moved_in, text_limit, page_limit, alias_limit, put_limit}
 
 abbrev staff : List (List ℕ)
@@ -172,7 +172,7 @@ abbrev ann : Reader
 ann = record { owner = false; groups = staff }
 
 abbrev table : ReaderTable
-table = made ((codes "tok", ann) ∷ [])
+table = record { by_token = made ((codes "tok", ann) ∷ []); by_digest = map.empty }
 
 token_with_a_space : ◌≡◌ {A = ReaderTable × Result Set ReaderError} (set_reader table (codes "a b") ann) (table, Err BadToken)
 unfolding is_token
@@ -182,10 +182,11 @@ token_without_bytes : ◌≡◌ {A = ReaderTable × Result Set ReaderError} (set
 unfolding is_token
 token_without_bytes = refl
 
-reader_stands : map.contains_key table (codes "tok") ≡ true
+reader_stands : map.contains_key table.by_token (codes "tok") ≡ true
 reader_stands = has-made ((codes "tok", ann) ∷ []) (codes "tok")
 
-reader_is_removed : map.remove table (codes "tok") ≡ made []
+reader_is_removed : (without_reader table (codes "tok")).by_token ≡ made []
+unfolding without_reader
 reader_is_removed = removed-made ((codes "tok", ann) ∷ []) (codes "tok")
 
 removed_reader_stands_not : map.contains_key (made {X = Reader} []) (codes "tok") ≡ false

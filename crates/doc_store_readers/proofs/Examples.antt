@@ -1,6 +1,8 @@
 -- The definitions on worked examples.
 use Rattle.std.proofs.Common.{◌≡◌, ℕ, List, [], ◌∷◌, true, false, codes, refl}
 use Rattle.std.specs.Prelude.{Some, None, Result, Ok, Err}
+use Rattle.hex.proofs.OnLiterals.{hex_on_literals}
+use Rattle.sha2.specs.Sha256.{compress, digest_bytes, first_words, hash_after, rounds, schedule, sha256}
 use Rattle.toml.proofs.OnLiterals.{toml_on_literals}
 use Rattle.toml.specs.Parse.{parse_document}
 use Rattle.doc_store_readers.specs.declared.groups.GroupsError.TheVariants.{BadGroup, TooMany}
@@ -9,7 +11,7 @@ use Rattle.doc_store_readers.specs.declared.readers.ReadersError.{ReadersError}
 use Rattle.doc_store_readers.specs.declared.readers.ReadersError.TheVariants.{BadToml, BadRow, Twice}
 use Rattle.doc_store_readers.specs.Groups.{groups_of, groups_of_names}
 use Rattle.doc_store_readers.specs.Pages.{Page}
-use Rattle.doc_store_readers.specs.Readers.{readers_in}
+use Rattle.doc_store_readers.specs.Readers.{Listed, none_listed, readers_in}
 use Rattle.doc_store_readers.specs.Sites.{View, goal_in, may_see, page_at}
 use Rattle.doc_page_parts.specs.Tokens.{is_token}
 
@@ -109,24 +111,24 @@ path_of_nothing = refl
 
 -- ---- reader entries
 
-abbrev read : List ℕ → Result (List (List ℕ × Reader)) ReadersError
+abbrev read : List ℕ → Result Listed ReadersError
 read text = readers_in (parse_document text)
 
 two_readers : read
     (codes "[[reader]]\ntoken = \"tok-owner\"\nowner = true\n\n[[reader]]\ntoken = \"ab==\"\ngroups = [\"staff\", \"ops\"]\nname = \"Ann\"\n")
-    ≡ Ok ((codes "tok-owner", owner) ∷ (codes "ab==", ann) ∷ [])
+    ≡ Ok (record { by_token = (codes "tok-owner", owner) ∷ (codes "ab==", ann) ∷ []; by_digest = [] })
 unfolding toml_on_literals is_token groups_of_names owner ann
 two_readers = refl
 
-inline_tables : read (codes "reader = [{token = \"t\"}]") ≡ Ok ((codes "t", record { owner = false; groups = [] }) ∷ [])
+inline_tables : read (codes "reader = [{token = \"t\"}]") ≡ Ok (record { by_token = (codes "t", record { owner = false; groups = [] }) ∷ []; by_digest = [] })
 unfolding toml_on_literals is_token groups_of_names
 inline_tables = refl
 
-no_reader : read (codes "cache = 4\n") ≡ Ok []
+no_reader : read (codes "cache = 4\n") ≡ Ok none_listed
 unfolding toml_on_literals
 no_reader = refl
 
-empty_array : read (codes "reader = []\n") ≡ Ok []
+empty_array : read (codes "reader = []\n") ≡ Ok none_listed
 unfolding toml_on_literals
 empty_array = refl
 
@@ -177,3 +179,55 @@ token_twice = refl
 bad_before_twice : read (codes "[[reader]]\ntoken = \"t\"\n[[reader]]\ntoken = \"t\"\n[[reader]]\n") ≡ Err (BadRow 3)
 unfolding toml_on_literals is_token groups_of_names
 bad_before_twice = refl
+
+-- ---- by digests
+
+bytes : List ℕ
+bytes = 0 ∷ 1 ∷ 2 ∷ 3 ∷ 4 ∷ 5 ∷ 6 ∷ 7 ∷ 8 ∷ 9 ∷ 10 ∷ 11 ∷ 12 ∷ 13 ∷ 14 ∷ 15 ∷ 16 ∷ 17 ∷ 18 ∷ 19 ∷ 20 ∷ 21 ∷ 22 ∷ 23 ∷ 24 ∷ 25 ∷ 26 ∷ 27 ∷ 28 ∷ 29 ∷ 30 ∷ 31 ∷ []
+
+digest_of_a_reader : read
+    (codes "[[reader]]\ntoken = \"t\"\n[[reader]]\ntoken_sha256 = \"000102030405060708090a0b0c0d0e0f101112131415161718191a1b1c1d1e1f\"\nowner = true\n")
+    ≡ Ok (record { by_token = (codes "t", record { owner = false; groups = [] }) ∷ []; by_digest = (bytes, owner) ∷ [] })
+unfolding toml_on_literals hex_on_literals is_token groups_of_names owner bytes first_words schedule rounds compress hash_after digest_bytes sha256
+digest_of_a_reader = refl
+
+upper_case_digits : read (codes "[[reader]]\ntoken_sha256 = \"000102030405060708090A0b0c0d0e0f101112131415161718191A1b1c1d1e1f\"\n") ≡ Err (BadRow 1)
+unfolding toml_on_literals hex_on_literals
+upper_case_digits = refl
+
+digits_62 : read (codes "[[reader]]\ntoken_sha256 = \"000102030405060708090a0b0c0d0e0f101112131415161718191a1b1c1d1e\"\n") ≡ Err (BadRow 1)
+unfolding toml_on_literals hex_on_literals
+digits_62 = refl
+
+digits_63 : read (codes "[[reader]]\ntoken_sha256 = \"000102030405060708090a0b0c0d0e0f101112131415161718191a1b1c1d1e1\"\n") ≡ Err (BadRow 1)
+unfolding toml_on_literals hex_on_literals
+digits_63 = refl
+
+digits_66 : read (codes "[[reader]]\ntoken_sha256 = \"000102030405060708090a0b0c0d0e0f101112131415161718191a1b1c1d1e1f20\"\n") ≡ Err (BadRow 1)
+unfolding toml_on_literals hex_on_literals
+digits_66 = refl
+
+no_digits : read (codes "[[reader]]\ntoken_sha256 = 1\n") ≡ Err (BadRow 1)
+unfolding toml_on_literals hex_on_literals
+no_digits = refl
+
+token_and_digest : read (codes "[[reader]]\ntoken = \"t\"\ntoken_sha256 = \"000102030405060708090a0b0c0d0e0f101112131415161718191a1b1c1d1e1f\"\n") ≡ Err (BadRow 1)
+unfolding toml_on_literals hex_on_literals is_token
+token_and_digest = refl
+
+digest_twice : read
+    (codes "[[reader]]\ntoken_sha256 = \"000102030405060708090a0b0c0d0e0f101112131415161718191a1b1c1d1e1f\"\n[[reader]]\ntoken_sha256 = \"000102030405060708090a0b0c0d0e0f101112131415161718191a1b1c1d1e1f\"\nowner = true\n")
+    ≡ Err (Twice 2)
+unfolding toml_on_literals hex_on_literals groups_of_names
+digest_twice = refl
+
+-- the digest of `abc` (FIPS 180-2, appendix B.1)
+digest_of_a_token : read (codes "[[reader]]\ntoken = \"abc\"\n[[reader]]\ntoken_sha256 = \"ba7816bf8f01cfea414140de5dae2223b00361a396177a9cb410ff61f20015ad\"\n")
+    ≡ Err (Twice 2)
+unfolding toml_on_literals hex_on_literals is_token groups_of_names first_words schedule rounds compress hash_after digest_bytes sha256
+digest_of_a_token = refl
+
+token_of_a_digest : read (codes "[[reader]]\ntoken_sha256 = \"ba7816bf8f01cfea414140de5dae2223b00361a396177a9cb410ff61f20015ad\"\n[[reader]]\ntoken = \"abc\"\n")
+    ≡ Err (Twice 2)
+unfolding toml_on_literals hex_on_literals is_token groups_of_names first_words schedule rounds compress hash_after digest_bytes sha256
+token_of_a_digest = refl

@@ -1,5 +1,7 @@
+pub mod CopySteps
 mod Examples
 pub mod EntrySteps
+pub mod FindLaws
 pub mod FilterSteps
 pub mod GroupLaws
 pub mod GroupSteps

@@ -5,6 +5,7 @@ ghost use Rattle.toml.specs.View.{table_view};
 ghost use Rattle.doc_store_readers.specs.Readers.{readers_of_document};
 
 use crate::entries::entries_of;
+use crate::listing::readers_of_entries;
 use crate::readers::{Readers, ReadersError};
 use doc_page_parts::heap::Heap;
 use toml::Table;
@@ -18,5 +19,5 @@ pub fn readers_of_document(heap: Heap, document: &Table) -> Result<Readers, Read
         (λ e. e ≢ ReadersError.Memory → readers_of_document (table_view document.now) ≡ Err e) }
 {
     let entries = entries_of(heap, document)?;
-    Readers::of_entries(heap, entries)
+    readers_of_entries(heap, entries)
 }

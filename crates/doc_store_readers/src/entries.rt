@@ -1,24 +1,23 @@
 //! The reader entries of a TOML document.
 
-ghost use Rattle.std.specs.Prelude.{◌≡◌, ◌≢◌, [], Some, Ok, Err, IfOk, IfErr, MatchResult, codes, option_copied};
+ghost use Rattle.std.specs.Prelude.{◌≡◌, ◌≢◌, [], Some, Ok, Err, IfOk, IfErr, MatchResult, codes};
 ghost use Rattle.toml.specs.Data.{get};
 ghost use Rattle.toml.specs.View.{items_view, table_view, view};
-ghost use Rattle.doc_store_readers.specs.Readers.{entries_from, entries_of, entry_of, owner_at, tables_in, token_in};
+ghost use Rattle.doc_store_readers.specs.Readers.{entries_from, entries_of, entry_of, owner_at, tables_in};
 
+use crate::keys::{Key, key_in};
 use crate::reader::Reader;
 use crate::readers::ReadersError;
 use crate::tables::{groups_in, tables_at};
 use doc_page_parts::failure::Memory;
 use doc_page_parts::heap::{Heap, Vec};
 use doc_page_parts::list::List;
-use doc_page_parts::text::Text;
-use doc_page_parts::token::is_token;
 use toml::{Table, Value};
 
-/// A reader entry: a token with its reader.
+/// A reader entry: a key with its reader.
 #[derive(Drop)]
 pub struct Entry {
-    pub token: Text,
+    pub key: Key,
     pub reader: Reader,
 }
 
@@ -66,7 +65,7 @@ fn entries_of_tables(heap: Heap, tables: &[Value]) -> Result<List<Entry>, Reader
 fn entry_of(heap: Heap, table: &Value) -> Result<Option<Entry>, Memory>
     ensures { IfOk result (λ entry. entry ≡ entry_of (view table.now)) }
 {
-    let Some(token) = token_in(table) else {
+    let Some(key) = key_in(heap, table)? else {
         return Ok(None);
     };
     let Some(owner) = owner_in(table) else {
@@ -76,20 +75,9 @@ fn entry_of(heap: Heap, table: &Value) -> Result<Option<Entry>, Memory>
         return Ok(None);
     };
     Ok(Some(Entry {
-        token: Text::copy_of(heap, token)?,
+        key,
         reader: Reader { owner, groups },
     }))
-}
-
-fn token_in(table: &Value) -> Option<&str>
-    ensures { option_copied result ≡ token_in (view table.now) }
-{
-    let token = table.get("token")?.as_str()?;
-    if is_token(token.as_bytes()) {
-        Some(token)
-    } else {
-        None
-    }
 }
 
 fn owner_in(table: &Value) -> Option<bool>

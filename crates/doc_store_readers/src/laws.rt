@@ -1,7 +1,7 @@
 //! Laws of groups and of what readers see. Each function does nothing: its contract is the law.
 
 ghost use Rattle.doc_store_readers.specs.Laws.{EqualSets, GoalsOfViews, NoReaderSeesNothing, SameGroups, SameNames, ViewOfView};
-ghost use Rattle.doc_store_readers.specs.Laws.{ViewsAreSites};
+ghost use Rattle.doc_store_readers.specs.Laws.{OthersStay, ViewsAreSites, WhoIsRemovedIsGone, WhoIsSetIsFound};
 
 /// The groups of some names are these names, and no others.
 pub fn groups_are_their_names()
@@ -41,4 +41,22 @@ pub fn no_reader_sees_nothing()
 #[tactic(auto, using(crate::proofs::ViewLaw::goals_of_views))]
 pub fn views_lead_where_sites_lead()
     ensures { GoalsOfViews }
+{}
+
+/// The reader who was set is found by the token.
+#[tactic(auto, using(crate::proofs::FindLaws::who_is_set_is_found))]
+pub fn who_is_set_is_found()
+    ensures { WhoIsSetIsFound }
+{}
+
+/// Nobody is found by a token whose reader was removed.
+#[tactic(auto, using(crate::proofs::FindLaws::who_is_removed_is_gone))]
+pub fn who_is_removed_is_gone()
+    ensures { WhoIsRemovedIsGone }
+{}
+
+/// Setting a reader and removing one change nobody who is found by another token, but for a collision
+/// of SHA-256.
+pub fn other_readers_stay()
+    ensures { OthersStay }
 {}

@@ -1,19 +1,21 @@
 //! The readers of a site by their tokens.
 
-ghost use Rattle.std.specs.Prelude.{◌≡◌, ◌≢◌, [], IfOk, IfErr, OnOk, OnErr, Ok, Err, option_copied};
+ghost use Rattle.std.specs.Prelude.{◌≡◌, ◌≢◌, IfOk, IfErr, OnOk, OnErr, Ok, Err, is_some, option_copied};
 ghost use Rattle.std.specs.FinMap as map;
 ghost use Rattle.doc_page_parts.specs.Refusals.{Gives};
-ghost use Rattle.doc_store_readers.specs.Readers.{readers_from, readers_of, set_reader, table_of};
+ghost use Rattle.doc_store_readers.specs.Readers.{find_in, no_readers, readers_of, set_reader, without_reader};
 
+use crate::copies::{copy_named, copy_of_digests};
 use crate::documents::readers_of_document;
-use crate::entries::Entry;
+use crate::keys::digest_of;
 use crate::reader::Reader;
 use crate::tables::document_of;
 use doc_page_parts::failure::Memory;
 use doc_page_parts::heap::{BTreeMap, Heap, String};
-use doc_page_parts::list::List;
 use doc_page_parts::text::Text;
 use doc_page_parts::token::is_token;
+use std::fmt;
+use std::fmt::Debug;
 use std::marker::Model;
 use thiserror::Error;
 
@@ -23,10 +25,11 @@ pub enum ReadersError {
     /// The text is no TOML document, or its `reader` is no array of tables.
     #[error("no TOML with an array of readers")]
     BadToml,
-    /// The first reader entry without a token, or with a key of a wrong value.
+    /// The first reader entry without a token or the digest of one, with both, or with a key of a
+    /// wrong value.
     #[error("reader {0} is bad")]
     BadRow(usize),
-    /// The first reader entry with the token of an earlier one.
+    /// The first reader entry with the token of an earlier one, or with its digest.
     #[error("reader {0} has the token of an earlier one")]
     Twice(usize),
     #[error("{}", Memory)]
@@ -74,32 +77,42 @@ impl From<Memory> for ReaderError {
     }
 }
 
-/// The readers of a site by their tokens. They keep the heap that they were made with. Contracts see
-/// the map.
+/// The readers of a site: by their tokens, and those whose tokens aren't known by the SHA-256 of these.
+/// They keep the heap that they were made with. Contracts see the two maps.
 #[derive(Drop)]
 pub struct Readers {
     heap: Heap,
-    entries: BTreeMap<String, Reader>,
+    by_token: BTreeMap<String, Reader>,
+    by_digest: BTreeMap<[u8; 32], Reader>,
 }
 
 impl Model for Readers {
-    ghost use Rattle.std.specs.Coded.{coded_ℕ, coded_list};
-    ghost use Rattle.std.specs.FinMap as map;
     ghost use Rattle.doc_store_readers.specs.contracts.reader.Reader as one;
-    ghost use Rattle.doc_store_readers.specs.Readers.{ReaderTable, entries_shown};
+    ghost use Rattle.doc_store_readers.specs.Readers.{ReaderTable, by_keys, by_tokens, reader_table_code};
 
     ghost Value = { ReaderTable };
 
-    ghost coded = { map.code (coded_list coded_ℕ) one.the_row.coded };
+    ghost coded = { reader_table_code one.the_row.coded };
 
-    ghost view = { λ r. map.from_entries (entries_shown r.entries.entries) };
+    ghost view = { λ r.
+        record {
+          by_token = by_tokens r.by_token.entries;
+          by_digest = by_keys r.by_digest.entries;
+        } };
+}
+
+/// No token is shown, nor a digest.
+impl Debug for Readers {
+    fn fmt<W: fmt::Write>(&self, f: &mut fmt::Formatter<W>) -> fmt::Result {
+        f.write_str("Readers")
+    }
 }
 
 impl Readers {
     /// The readers that a TOML 1.1 document lists: each table of its array `reader` has a `token`
-    /// (RFC 6750, section 2.1), and may have `owner` (a boolean, else false) and `groups` (an array
-    /// of names, else none). Other keys are ignored. `Memory` may be answered before another fault
-    /// is found.
+    /// (RFC 6750, section 2.1) or a `token_sha256` (the SHA-256 of one, 64 digits of `0-9` and
+    /// `a-f`), and may have `owner` (a boolean, else false) and `groups` (an array of names, else
+    /// none). Other keys are ignored. `Memory` may be answered before another fault is found.
     pub fn from_toml(heap: Heap, text: &str) -> Result<Readers, ReadersError>
         ensures read { IfOk result (λ readers. readers_of text.now ≡ Ok readers) }
         ensures refused { IfErr result
@@ -109,35 +122,28 @@ impl Readers {
         readers_of_document(heap, &document)
     }
 
-    fn new(heap: Heap) -> Readers
-        ensures { result ≡ map.empty }
+    pub(crate) fn new(heap: Heap) -> Readers
+        ensures { result ≡ no_readers }
     {
         Readers {
             heap,
-            entries: BTreeMap::new(heap),
+            by_token: BTreeMap::new(heap),
+            by_digest: BTreeMap::new(heap),
         }
     }
 
-    /// The readers of these entries, no two of which may have one token.
-    pub(crate) fn of_entries(heap: Heap, entries: List<Entry>) -> Result<Readers, ReadersError>
-        ensures read { IfOk result (λ readers. table_of (readers_from [] 1 entries) ≡ Ok readers) }
-        ensures refused { IfErr result
-            (λ e. e ≢ ReadersError.Memory → readers_from [] 1 entries ≡ Err e) }
+    pub fn copy(&self, heap: Heap) -> Result<Readers, Memory>
+        ensures { IfOk result (λ copy. copy ≡ self.now) }
     {
-        let mut readers = Readers::new(heap);
-        let mut number = 0;
-        for Entry { token, reader } in entries.into_inner() {
-            number += 1;
-            if readers.find(token.get()).is_some() {
-                return Err(ReadersError::Twice(number));
-            }
-            readers.insert(token, reader)?;
-        }
-        Ok(readers)
+        Ok(Readers {
+            heap,
+            by_token: copy_named(heap, &self.by_token)?,
+            by_digest: copy_of_digests(heap, &self.by_digest)?,
+        })
     }
 
-    /// Sets the reader of a token, and no other. Refused are, in this order, `BadToken` and `Memory`;
-    /// then nothing changes.
+    /// Sets the reader of a token, and no other. A reader of its digest gives way. Refused are, in
+    /// this order, `BadToken` and `Memory`; then nothing changes.
     pub fn set(&mut self, token: &str, reader: &Reader) -> Result<Set, ReaderError>
         ensures { Gives ReaderError.Memory
             (set_reader self.old token.now reader.now) self.old self.new result }
@@ -149,31 +155,76 @@ impl Readers {
         let key = Text::copy_of(self.heap, token)?;
         let stands = self.find(token).is_some();
         self.insert(key, reader)?;
+        self.remove_digest(&digest_of(token));
         Ok(if stands { Set::Replaced } else { Set::Added })
     }
 
     /// Removes the reader with the token, and no other. `false` says that there is none. It takes no
     /// memory.
     pub fn remove(&mut self, token: &str) -> bool
-        ensures answer { result ≡ map.contains_key self.old token.now }
-        ensures readers { self.new ≡ map.remove self.old token.now }
+        ensures answer { result ≡ is_some (find_in self.old token.now) }
+        ensures readers { self.new ≡ without_reader self.old token.now }
     {
-        self.entries.remove(token).is_some()
+        let stands = self.find(token).is_some();
+        self.remove_token(token);
+        self.remove_digest(&digest_of(token));
+        stands
     }
 
     /// Sets the reader of a token.
-    fn insert(&mut self, token: Text, reader: Reader) -> Result<(), Memory>
-        ensures ok { OnOk result (self.new ≡ map.insert self.old token reader) }
+    pub(crate) fn insert(&mut self, token: Text, reader: Reader) -> Result<(), Memory>
+        ensures ok { OnOk result
+            (self.new ≡ record self.old { by_token = map.insert self.old.by_token token reader }) }
         ensures err { OnErr result (self.new ≡ self.old) }
     {
-        self.entries.insert(token.into_inner(), reader)?;
+        self.by_token.insert(token.into_inner(), reader)?;
         Ok(())
     }
 
-    /// The reader with the token.
-    pub fn find(&self, token: &str) -> Option<&Reader>
-        ensures { option_copied result ≡ map.get self.now token.now }
+    /// Sets the reader of a digest.
+    pub(crate) fn insert_digest(&mut self, digest: [u8; 32], reader: Reader) -> Result<(), Memory>
+        ensures ok { OnOk result
+            (self.new ≡ record self.old { by_digest = map.insert self.old.by_digest digest reader }) }
+        ensures err { OnErr result (self.new ≡ self.old) }
     {
-        self.entries.get(token)
+        self.by_digest.insert(digest, reader)?;
+        Ok(())
+    }
+
+    fn remove_token(&mut self, token: &str)
+        ensures { self.new ≡ record self.old { by_token = map.remove self.old.by_token token.now } }
+    {
+        self.by_token.remove(token);
+    }
+
+    fn remove_digest(&mut self, digest: &[u8; 32])
+        ensures { self.new ≡ record self.old { by_digest = map.remove self.old.by_digest digest.now } }
+    {
+        self.by_digest.remove(digest);
+    }
+
+    /// The reader with the token.
+    #[tactic(auto, unfolding(crate::specs::Readers::find_in))]
+    pub fn find(&self, token: &str) -> Option<&Reader>
+        ensures { option_copied result ≡ find_in self.now token.now }
+    {
+        match self.named(token) {
+            Some(reader) => Some(reader),
+            None => self.with_digest(&digest_of(token)),
+        }
+    }
+
+    /// The reader whom the token names.
+    pub(crate) fn named(&self, token: &str) -> Option<&Reader>
+        ensures { option_copied result ≡ map.get self.now.by_token token.now }
+    {
+        self.by_token.get(token)
+    }
+
+    /// The reader whom the digest of a token names.
+    pub(crate) fn with_digest(&self, digest: &[u8; 32]) -> Option<&Reader>
+        ensures { option_copied result ≡ map.get self.now.by_digest digest.now }
+    {
+        self.by_digest.get(digest)
     }
 }

@@ -1,6 +1,6 @@
 //! Events, as a line writes them: `connect`, `push ID BYTES`, `step ID`, `disconnect ID`, `put PATH | GROUPS | TEXT`, `remove PATH`,
-//! `move FROM | TO`, `reader TOKEN | READER`, where the reader is `owner` or has these groups, `unreader TOKEN`, and `puts taken` or
-//! `puts refused`.
+//! `move FROM | TO`, `reader TOKEN | READER`, where the reader is `owner` or has these groups, `unreader TOKEN`, `readers TOML`, and
+//! `puts taken` or `puts refused`.
 
 use crate::given::{both, connection, groups_of, id_and_bytes, path_of, reader_of, text_of, two};
 use crate::stop::Stop;
@@ -8,6 +8,7 @@ use doc_hub::event::{ConnectionEvent, Event, ReaderEdit};
 use doc_page_parts::bytes::Bytes;
 use doc_page_parts::heap::{Heap, Vec};
 use doc_page_parts::path::Path;
+use doc_store::readers::Readers;
 use doc_store::site_edit::SiteEdit;
 
 /// Events with ` ; ` between two.
@@ -52,6 +53,7 @@ fn edit_of(heap: Heap, name: &str, given: &str) -> Result<Event, Stop> {
         "move" => move_page(heap, given),
         "reader" => set_reader(heap, given),
         "unreader" => Ok(Event::Reader(ReaderEdit::Remove(text_of(heap, given)?))),
+        "readers" => set_readers(heap, given),
         _ => Err(Stop::NoCall),
     }
 }
@@ -90,4 +92,9 @@ fn set_reader(heap: Heap, given: &str) -> Result<Event, Stop> {
     let (token, reader) = two(given)?;
     let (token, reader) = both(text_of(heap, token), reader_of(heap, reader))?;
     Ok(Event::Reader(ReaderEdit::Set(token, reader)))
+}
+
+fn set_readers(heap: Heap, given: &str) -> Result<Event, Stop> {
+    let config = text_of(heap, given)?;
+    Ok(Event::Reader(ReaderEdit::All(Readers::from_toml(heap, config.get())?)))
 }

@@ -3,8 +3,8 @@
 //! line `listening` come those of servers that accept while they serve, and of journals (`listen`), and behind a line `serving` those of
 //! servers, turns and compactions in memory (`serving`).
 //!
-//! - `world keep CACHE READERS` makes a hub with the readers of a TOML text, and `world close CACHE READERS` one that keeps no connection
-//!   alive. It answers `()`, or what refuses it; then no calls follow.
+//! - `world keep CACHE READERS` makes a hub with the readers of a TOML text, `world close CACHE READERS` one that keeps no connection
+//!   alive, and `world read CACHE READERS` one that takes no edits. It answers `()`, or what refuses it; then no calls follow.
 //! - `next BYTES` and `drip BYTES` (`requests`), an event (`events`), and `ask ID BYTES`, `report TOKEN` and `run EVENT ; EVENT ..`
 //!   (`hubs`) are the calls. Pages are rendered as CommonMark. `times N CALL` makes a call N times (`times`).
 //!

@@ -23,8 +23,8 @@ pub struct World<R: Renderer + Drop> {
     pub hub: Hub<R>,
 }
 
-/// The world of a line `keep CACHE CONFIG`, or `close CACHE CONFIG` where no connection is kept alive. Of the configuration the readers are
-/// taken, and the pages for people.
+/// The world of a line `keep CACHE CONFIG`, or `close CACHE CONFIG` where no connection is kept alive, or `read CACHE CONFIG` where no
+/// edits are taken. Of the configuration the readers are taken, and the pages for people.
 pub fn new_world<R: Renderer + Drop>(
     heap: Heap,
     renderer: R,
@@ -63,7 +63,8 @@ fn begin_of(heap: Heap, given: &str) -> Result<Begin, Stop> {
     let readers = Readers::from_toml(heap, config)?;
     Ok(Begin {
         settings: Settings {
-            keep_alive: kind == "keep",
+            keep_alive: kind != "close",
+            takes_edits: kind != "read",
             browse: browse_of(heap, config)?,
         },
         cache: cache as usize,

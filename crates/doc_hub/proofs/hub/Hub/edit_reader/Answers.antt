@@ -34,3 +34,16 @@ returns-in-Remove-clause-counted g c =
     (events.Reader c.args.edit.now) (events.Reader (reader_edits.Remove c.get-in-Remove.result.now)) _ c.remove_reader.result
     (ap (events.Reader) (c.in-Remove.is ∙ ap reader_edits.Remove (sym c.get-in-Remove.ensures)))
     c.remove_reader.ensures.world c.remove_reader.ensures.counted refl
+
+pub returns-in-All-clause-world : goal.returns-in-All-clause-world
+returns-in-All-clause-world g c =
+    leaves_so (g.R.Renderer.page c.args.self.now.0) c.args.self.now.1 (events.Reader c.args.edit.now) (events.Reader
+    (reader_edits.All c.in-All.readers))
+    c.set_copies.new.self.1 _ c.set_copies.result (ap (events.Reader) c.in-All.is) c.set_copies.ensures.world c.from-in-All.ensures
+
+pub returns-in-All-clause-counted : goal.returns-in-All-clause-counted
+returns-in-All-clause-counted g c =
+    counted_so (g.R.Renderer.page c.args.self.now.0) (g.R.Renderer.count c.args.self.now.0)
+    (g.R.Renderer.count c.set_copies.new.self.0) c.args.self.now.1 c.set_copies.new.self.1
+    (events.Reader c.args.edit.now) (events.Reader (reader_edits.All c.in-All.readers)) _ c.set_copies.result
+    (ap (events.Reader) c.in-All.is) c.set_copies.ensures.world c.set_copies.ensures.counted c.from-in-All.ensures
