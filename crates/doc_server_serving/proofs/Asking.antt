@@ -1,6 +1,6 @@
 -- Peers that were asked for.
 use Rattle.std.proofs.Common.{◌≡◌, ◌≤◌, ◌<◌, ◌∙◌, ℕ, List, Bool, true, false, inl, inr, sym, arith}
-use Rattle.std.specs.Prelude.{◌⊎◌, Option, nat_lt, not, ◌&&◌}
+use Rattle.std.specs.Prelude.{◌⊎◌, Option, Result, Ok, Err, IfErr, nat_lt, not, ◌&&◌}
 use Rattle.doc_hub.specs.Worlds.{World}
 use Rattle.doc_hub_answers.specs.Replies.{Renders}
 use Rattle.doc_server_network.specs.Networks.{Call, HasNobody, Recalls, WasAsked, WasWaitedFor}
@@ -54,3 +54,14 @@ asked_open door standing Asked count some (inr (inr asked)) stands_open = asked
 pub waited_once : (count : ℕ) (made : Call → Type 0) → 0 < count → (count ≡ 0) ⊎ WasWaitedFor made → WasWaitedFor made
 waited_once count made some (inl none) = absurd (omega (arith, some, none))
 waited_once count made some (inr waited) = waited
+
+pub waited_still : (mid new : Call → Type 0) → Recalls mid new → WasWaitedFor mid → WasWaitedFor new
+waited_still mid new still (r, made) = (r, still _ made)
+
+pub asked_below : (a b : ℕ) (made : Call → Type 0) → a ≤ b → WasAsked b made → WasAsked a made
+asked_below a b made le (id, said, above, was) = (id, said, omega (arith, le, above), was)
+
+-- what holds whatever the fault is
+pub any_fault : {X E : Type 0} (P : E → Type 0) (W : Type 0) (r : Result X E) → W → IfErr r (λ e. P e → W)
+any_fault P W (Ok x) w = tt
+any_fault P W (Err e) w = λ is. w

@@ -1,5 +1,6 @@
 use Rattle.std.proofs.Common.{◌≤◌, arith, subst, ◌∙◌}
 use Rattle.std.specs.FinMap as map
+use Rattle.doc_server_serving.proofs.Asking.{asked_below, none_less}
 use Rattle.doc_server_serving.proofs.Fewer.{fewer_swept}
 use Rattle.doc_server_serving.proofs.Going.{goes_join, goes_swept}
 use Rattle.doc_server_serving.proofs.Minding.{waits_join, waits_swept}
@@ -76,3 +77,10 @@ returns-clause-waits g c =
     waits_join c.args.self.now.peers c.sweep.new.self.peers c.accept.new.peers
     (waits_swept c.args.self.now.peers c.sweep.new.self.peers c.sweep.ensures.swept)
     (waits_join c.sweep.new.self.peers c.let_over_go.new.self.peers c.accept.new.peers c.let_over_go.ensures.waits c.accept.ensures.waits)
+
+pub returns-clause-asked : goal.returns-clause-asked
+returns-clause-asked g c =
+    λ still. asked_below c.args.saved.now.hub.1.given c.let_over_go.new.saved.hub.1.given (g.N.Network.made c.accept.new.net)
+    (none_less g.R.Renderer.page g.N.Network.came g.N.Network.gone g.N.Network.wakes g.N.Network.is_free c.args.saved.now.hub
+    c.let_over_go.new.saved.hub c.args.net.now c.let_over_go.new.net c.sweep.new.self.peers c.let_over_go.new.self.peers
+    c.let_over_go.ensures.goes) (c.accept.ensures.asked still)

@@ -1,9 +1,11 @@
-use Rattle.std.proofs.Common.{◌≤◌, refl, subst, sym, ◌∙◌, arith, inl, inr}
+use Rattle.std.proofs.Common.{◌≡◌, ◌≤◌, refl, subst, sym, ◌∙◌, arith, inl, inr}
 use Rattle.std.specs.FinMap as map
 use Rattle.doc_server_network.specs.Crashes.{Restores}
+use Rattle.doc_server_network.specs.Networks.{WasWaitedFor}
 use Rattle.doc_server_serving.specs.Crashing.{RestoresFront}
+use Rattle.doc_server_serving.specs.declared.fault.ServeFault.TheVariants as faults
 use Rattle.doc_server_serving.proofs.Accepting.{goes_silently}
-use Rattle.doc_server_serving.proofs.Asking.{waited_once}
+use Rattle.doc_server_serving.proofs.Asking.{any_fault, waited_once}
 use Rattle.doc_server_serving.proofs.Bounds.{nobody}
 use Rattle.doc_server_serving.proofs.Crashing.{at_first, leaves_weaker, turn_behind}
 use Rattle.doc_server_serving.proofs.Going.{goes_join, nobody_rests, served}
@@ -200,4 +202,6 @@ pub returns-clause-why : goal.returns-clause-why
 returns-clause-why g c = λ is. waited_once c.turns.counter (g.N.Network.made c.turns.net) (omega (arith, c.turns-test.false)) c.turns.invariant.waited
 
 pub returns-in_err-turn-clause-why : goal.returns-in_err-turn-clause-why
-returns-in_err-turn-clause-why g c = λ is. c.turn.ensures.waits
+returns-in_err-turn-clause-why g c =
+    any_fault (λ fault. fault ≡ faults.Socket) (WasWaitedFor (g.N.Network.made c.turn.new.net)) c.from_residual-in_err-turn.result
+    c.turn.ensures.waits

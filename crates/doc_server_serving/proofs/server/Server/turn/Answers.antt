@@ -1,6 +1,7 @@
 use Rattle.std.proofs.Common.{◌≤◌, ℕ, ap, arith, subst, ◌∙◌}
 use Rattle.std.specs.FinMap as map
 use Rattle.doc_server_serving.specs.Hearing.{IsMinded}
+use Rattle.doc_server_serving.proofs.Asking.{asked_below, none_less, waited_still}
 use Rattle.doc_server_serving.proofs.Crashing.{ended_behind, nothing_written, room_before, served_behind}
 use Rattle.doc_server_serving.proofs.Fewer.{fewer_given}
 use Rattle.doc_server_serving.proofs.Going.{goes_join}
@@ -39,11 +40,6 @@ end_turn-requires g c =
 
 pub returns-in_err-wait-clause-goes : goal.returns-in_err-wait-clause-goes
 returns-in_err-wait-clause-goes g c =
-    goes_waited g.R.Renderer.page g.N.Network.came g.N.Network.gone g.N.Network.wakes g.N.Network.is_free c.args.saved.now.hub c.args.net.now c.wait.new.self c.args.self.now.peers
-    c.wait.ensures.wakes c.wait.ensures.free c.wait.ensures.came c.wait.ensures.gone
-
-pub returns-in_default-clause-goes : goal.returns-in_default-clause-goes
-returns-in_default-clause-goes g c =
     goes_waited g.R.Renderer.page g.N.Network.came g.N.Network.gone g.N.Network.wakes g.N.Network.is_free c.args.saved.now.hub c.args.net.now c.wait.new.self c.args.self.now.peers
     c.wait.ensures.wakes c.wait.ensures.free c.wait.ensures.came c.wait.ensures.gone
 
@@ -157,12 +153,6 @@ returns-in_err-wait-clause-any_moment g c =
     nothing_written g.D.Device.seen g.D.Device.moment g.D.Device.left_since g.D.Device.may_leave g.D.Device.failed g.D.Device.stale g.met.D.Device.only_now
     config c.args.saved.now.hub.1 c.args.saved.now.journal c.args.saved.now.unsaved is.0
 
-pub returns-in_default-clause-any_moment : goal.returns-in_default-clause-any_moment
-returns-in_default-clause-any_moment g c =
-    λ config all is.
-    nothing_written g.D.Device.seen g.D.Device.moment g.D.Device.left_since g.D.Device.may_leave g.D.Device.failed g.D.Device.stale g.met.D.Device.only_now
-    config c.args.saved.now.hub.1 c.args.saved.now.journal c.args.saved.now.unsaved is.0
-
 pub returns-in_err-look-clause-any_moment : goal.returns-in_err-look-clause-any_moment
 returns-in_err-look-clause-any_moment g c =
     λ config all is.
@@ -247,3 +237,38 @@ returns-clause-heard g c =
           minded_on k served.leads.run c.end_turn.ensures.goes.leads.run (map.get c.args.self.now.peers k)
           (map.get c.serve_ready.new.self.peers k) (map.get c.end_turn.new.self.peers k) (first k) (c.end_turn.ensures.waits k),
     )
+
+pub returns-in_err-serve_ready-clause-waits : goal.returns-in_err-serve_ready-clause-waits
+returns-in_err-serve_ready-clause-waits g c =
+    waited_still (g.N.Network.made c.wait.new.self) (g.N.Network.made c.serve_ready.new.net)
+    (λ k f. c.serve_ready.ensures.calls k (c.wake_told-news.ensures.calls k f)) (c.wait.result, c.wait.ensures.call)
+
+pub returns-then-ends-clause-waits : goal.returns-then-ends-clause-waits
+returns-then-ends-clause-waits g c =
+    waited_still (g.N.Network.made c.wait.new.self) (g.N.Network.made c.serve_ready.new.net)
+    (λ k f. c.serve_ready.ensures.calls k (c.wake_told-news.ensures.calls k f)) (c.wait.result, c.wait.ensures.call)
+
+pub returns-in_err-end_turn-clause-waits : goal.returns-in_err-end_turn-clause-waits
+returns-in_err-end_turn-clause-waits g c =
+    waited_still (g.N.Network.made c.wait.new.self) (g.N.Network.made c.end_turn.new.net)
+    (λ k f. c.end_turn.ensures.calls k (c.serve_ready.ensures.calls k (c.wake_told-news.ensures.calls k f)))
+    (c.wait.result, c.wait.ensures.call)
+
+pub returns-clause-waits : goal.returns-clause-waits
+returns-clause-waits g c =
+    waited_still (g.N.Network.made c.wait.new.self) (g.N.Network.made c.end_turn.new.net)
+    (λ k f. c.end_turn.ensures.calls k (c.serve_ready.ensures.calls k (c.wake_told-news.ensures.calls k f)))
+    (c.wait.result, c.wait.ensures.call)
+
+pub returns-clause-asked : goal.returns-clause-asked
+returns-clause-asked g c =
+    λ ends still. asked_below c.args.saved.now.hub.1.given c.serve_ready.new.saved.hub.1.given (g.N.Network.made c.end_turn.new.net)
+    (none_less g.R.Renderer.page g.N.Network.came g.N.Network.gone g.N.Network.wakes g.N.Network.is_free c.args.saved.now.hub
+    c.serve_ready.new.saved.hub c.args.net.now c.serve_ready.new.net c.args.self.now.peers c.serve_ready.new.self.peers
+    (goes_join g.R.Renderer.page g.N.Network.came g.N.Network.gone g.N.Network.wakes g.N.Network.is_free c.args.saved.now.hub c.look.new.saved.hub c.serve_ready.new.saved.hub
+    c.args.net.now c.wake_told-news.new.net c.serve_ready.new.net c.args.self.now.peers c.wake_told-news.new.peers c.serve_ready.new.self.peers
+    (goes_begun g.R.Renderer.page g.N.Network.came g.N.Network.gone g.N.Network.wakes g.N.Network.is_free c.args.saved.now.hub c.look.new.saved.hub c.args.net.now c.wait.new.self
+    c.wake_told-news.new.net c.args.self.now.peers c.wake_told-news.new.peers c.wait.ensures.wakes c.wait.ensures.free c.wait.ensures.came c.wait.ensures.gone
+    c.look.ensures.same c.look.ensures.quiet (g.N.Network.has_ended c.wake_told-news.new.net) c.wake_told-news.ensures.gives
+    c.wake_told-news.ensures.came c.wake_told-news.ensures.gone c.wake_told-news.ensures.woken c.wake_told-news.ensures.free)
+    c.serve_ready.ensures.goes)) (c.in_ok-end_turn.ensures.asked still)
