@@ -6,7 +6,7 @@ use crate::reader::Reader;
 /// A request that was answered, as a line tells of it. There is no place in it for a field of the request's head.
 #[derive(Clone, Copy, Debug)]
 pub struct Entry<'a> {
-    /// When all replies of the turn had been handed over; `None` where the clock failed.
+    /// When the first reply of the turn had been handed over; `None` where the clock failed.
     pub time: Option<Moment>,
     /// The number of the connection.
     pub connection: u64,
