@@ -45,6 +45,14 @@ impl Names {
         if !login {
             return Ok(Reader::Nobody);
         }
+        self.asking_by_password(heap, value)
+    }
+
+    /// Who asks by the password of a login.
+    fn asking_by_password(&self, heap: Heap, value: &Bytes) -> Result<Reader<'_>, Memory>
+        ensures { IfOk result (λ reader. shown_reader reader
+            ≡ shown_found (option_and_then (found_by self.now) (password_in value.now))) }
+    {
         match password(heap, value.get())? {
             Some(token) => Ok(self.reader_of(token.get())),
             None => Ok(Reader::Nobody),
