@@ -169,6 +169,7 @@ class Logged:
 
 # ---- what is asked
 
+QUOTES = '/page/"' + '\\"' * 600
 ONE_BY_ONE = (
     request("GET", "/page/a.md"), request("HEAD", "/page/a.md"), request("GET", "/page/a.md", PLAIN),
     request("GET", "/page/a.md", WRONG), request("GET", "/page/a.md", None), request("GET", "/page/none.md"),
@@ -181,7 +182,7 @@ ONE_BY_ONE = (
     request("GET", "/page/" + "p" * 994), request("GET", "/page/" + "p" * 995, logged=("GET", "/page/" + "p" * 994 + "...")),
     request("GET", "/page/é\u0085", logged=("GET", "/page/%C3%A9%C2%85")), request("GET", "/page/%0A%1B[2J"),
     request("GET", "/page/" + "%" * 9_000 + "?" + OWNER, logged=("GET", "/page/" + "%" * 994 + "...")),
-    request("GET", '/page/"a\\b"\\'), request("GET", '/page/"' + '\\"' * 600, logged=("GET", ('/page/"' + '\\"' * 600)[:1_000] + "...")),
+    request("GET", '/page/"a\\b"\\'), request("GET", QUOTES, logged=("GET", QUOTES[:1_000] + "...")),
     request("GET", "/page/a.md", fields="Cookie: " + OWNER + "\r\n"),
     request("GET", "/page/a.md", fields="Connection: close\r\n"),
 )
@@ -277,12 +278,14 @@ def names():
     """Who asks, as JSON has it: a name, or the number of the row, of whom the configuration knows, and `-` for all others and for guests.
     A password counts where readers may sign in by one. What isn't a good name is none."""
     rows = (("a", 'name = "ann"'), ("b", ""), ("c", 'name = "Ann"'), ("d", 'name = "j.doe-2_x@example.org"'), ("e", "name = 5"),
-            ("f", f'name = "{"n" * 32}"'), ("g", f'name = "{"n" * 33}"'), ("h", 'name = ""'), ("i", 'name = "ann"'), ("j", 'name = "an\\"n"'))
+            ("f", f'name = "{"n" * 32}"'), ("g", f'name = "{"n" * 33}"'), ("h", 'name = ""'), ("i", 'name = "ann"'),
+            ("j", 'name = "an\\"n"'))
     good = {"a": "ann", "d": "j.doe-2_x@example.org", "f": "n" * 32, "i": "ann"}
     readers = "".join(f'[[reader]]\ntoken = "tok-{token}-12af"\n{line}\n' for token, line in rows)
     page = '[[page]]\npath = "a.md"\ntext = "Hello"\n'
     SECRETS.extend(f"tok-{token}-12af" for token, _ in rows)
-    for site, browse, login in (("plain", "", False), ("guests", '[browse]\nguest = []\n', False), ("logins", '[browse]\nlogin = "basic"\n', True)):
+    for site, browse, login in (("plain", "", False), ("guests", "[browse]\nguest = []\n", False),
+                                ("logins", '[browse]\nlogin = "basic"\n', True)):
         put(f"{site}.toml", browse + readers + page)
         log = Logged("--log=json", config=f"{site}.toml")
         peer = log.peer()
@@ -323,7 +326,8 @@ def answers(port):
 
 def unwritten():
     """A log that can't be written, and one that isn't wanted."""
-    for form, name, stderr in ((form, *it) for form in FORMS for it in (("a full device", open("/dev/full", "wb")), ("a closed pipe", None))):
+    broken = (("a full device", open("/dev/full", "wb")), ("a closed pipe", None))
+    for form, name, stderr in ((form, *it) for form in FORMS for it in broken):
         back, front = os.pipe()
         os.close(back)
         port = free_port()
