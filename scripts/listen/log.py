@@ -205,7 +205,8 @@ BAD = (
 OPTIONS = (
     (["--log=json"], True), (["--journal", "j", "--log=json"], True), (["--log=json", "--journal", "j"], True),
     (["--log=json", "--log=json"], False), (["--log=json", "--log"], False), (["--log", "--log=json"], False), (["--log=JSON"], False),
-    (["--log", "json"], False), (["--log"], True), (["--journal", "j", "--log"], True), (["--log", "--journal", "j"], True), (["--journal", "--log"], True),
+    (["--log", "json"], False),
+    (["--log"], True), (["--journal", "j", "--log"], True), (["--log", "--journal", "j"], True), (["--journal", "--log"], True),
     (["--journal", "--log", "--log"], True), (["--log", "--log"], False), (["--log", "x"], False), (["--journal"], False),
     (["--log", "--journal"], False), (["--journal", "j", "--journal", "k"], False), (["--log", "--log", "--log"], False),
     (["--journal", "j", "--log", "--log"], False), (["--journal", "j", "x"], False), (["log"], False), (["--Log"], False),

@@ -110,7 +110,8 @@ def options():
     """Each line of up to four words, and some of five."""
     words = ("--journal", "--log", "--log=json", "j", "--Log")
     lines = [line for count in range(5) for line in itertools.product(words, repeat=count)]
-    lines += [("--log", "--journal", "j", last, "x") for last in words] + [("--log=",), ("--log=text",), ("--log=JSON",), ("--log", "json"), ("--journal=j",), ("-log",), ("--",), ("-",)]
+    lines += [("--log", "--journal", "j", last, "x") for last in words]
+    lines += [("--log=",), ("--log=text",), ("--log=JSON",), ("--log", "json"), ("--journal=j",), ("-log",), ("--",), ("-",)]
     for command, front in FRONTS.items():
         for line in map(list, lines):
             stops([command, *front, *line], *(wrong(command, line) or (UNDERSTOOD,)))
