@@ -1,19 +1,24 @@
-"""The log of `listen`: each request's line, field by field, beside what its client was answered: pages, edits, queries, pipelines in one
-write, requests cut anywhere, bad ones, long ones, slow readers, with a journal and without. A token stands nowhere in it. A log that
-can't be written stops nobody.
+"""The log of `listen` in both its forms: each request's line, field by field, beside what its client was answered: pages, edits, queries,
+pipelines in one write, requests cut anywhere, bad ones, long ones, slow readers, with a journal and without. As JSON, which `jq` reads too
+where it is there, it has who asked, by name or row, and when. A token stands nowhere in it. A log that can't be written stops nobody.
 
     python3 scripts/listen/log.py PROGRAM
 
 Builds nothing. Needs python3. Some seconds.
 """
-import os, random, re, socket, subprocess, sys, time, urllib.parse
+import base64, datetime, json, os, random, re, shutil, socket, subprocess, sys, time, urllib.parse
 sys.path.insert(1, os.path.dirname(__file__) + "/../lib")
 from scene import HOST, Scene, free_port, put, start, until
 
 scene = Scene(seconds=300)
 OWNER, PLAIN, WRONG = "tok-Owner-7c1f", "tok-plain-55aa", "tok-wrong-0b9d"
-SECRETS = [OWNER, PLAIN, WRONG, "searched-for", "Bearer", "bearer"]
+SECRETS = [OWNER, PLAIN, WRONG, "searched-for", "Bearer", "bearer", "Basic"]
+# who has the token, by name or row
+READERS = {OWNER: "ann", PLAIN: "reader-2"}
+FORMS = ("--log", "--log=json")
 LINE = re.compile(r"(\d+) ([A-Z]{1,16}|-) (/[!-~]*|-) (\d{3}) (\d+) (\d+)\n")
+KEYS = ["time", "conn", "reader", "method", "path", "code", "bytes", "us"]
+TIME = re.compile(r"\d{4}-\d\d-\d\dT\d\d:\d\d:\d\d\.\d{6}Z")
 
 
 class Peer:
@@ -30,9 +35,10 @@ class Peer:
         self.left, self.asked, self.seen = b"", [], []
 
     def send(self, *requests, cuts=(), pause=0.003):
-        """Sends requests, each the bytes, and the method and the target that are to be logged; in one write, or cut at these places."""
+        """Sends requests, each the bytes, and what is to be logged of it: method, target, and who asks, where somebody does; in one write,
+        or cut at these places."""
         data = b"".join(it[0] for it in requests)
-        self.asked += [it[1:] for it in requests]
+        self.asked += [(it[1], it[2], *(it[3:] or ("-",))) for it in requests]
         places = [0, *sorted(set(cuts)), len(data)]
         for begin, end in zip(places, places[1:]):
             if begin < end:
@@ -70,23 +76,47 @@ class Peer:
 
 
 def request(method, target, token=OWNER, body=b"", fields="", version="1.1", logged=None):
-    """A request, and what is to be logged of it: method and target."""
+    """A request, and what is to be logged of it: method, target and who asks."""
     head = f"{method} {target} HTTP/{version}\r\nHost: docs\r\n" + (f"Authorization: Bearer {token}\r\n" if token else "") + fields
     length = f"Content-Length: {len(body)}\r\n" if body or method == "PUT" else ""
-    return (head + length + "\r\n").encode() + body, *(logged or (method, target.split("?")[0]))
+    return (head + length + "\r\n").encode() + body, *(logged or (method, target.split("?")[0])), READERS.get(token, "-")
 
 
 def chunked(target, body, size):
     parts = b"".join(b"%x\r\n%s\r\n" % (len(body[i:i + size]), body[i:i + size]) for i in range(0, len(body), size)) + b"0\r\n\r\n"
     head = f"PUT {target} HTTP/1.1\r\nHost: docs\r\nAuthorization: Bearer {OWNER}\r\nTransfer-Encoding: chunked\r\n\r\n"
-    return head.encode() + parts, "PUT", target
+    return head.encode() + parts, "PUT", target, READERS[OWNER]
+
+
+def told_plainly(line):
+    """Of a line what it tells, without who asked: connection, method, target, code, bytes, microseconds. None where it is none."""
+    found = LINE.fullmatch(line)
+    return found and (int(found[1]), None, found[2], found[3], *map(int, found.groups()[3:]))
+
+
+def told_as_json(line):
+    """The same with who asked. The line is an object of these keys in their order, without a space, in ASCII."""
+    try:
+        found = json.loads(line)
+    except ValueError:
+        return None
+    if list(found) != KEYS or line != json.dumps(found, separators=(",", ":")) + "\n" or not TIME.fullmatch(found["time"]):
+        return None
+    return tuple(found[it] for it in KEYS[1:])
+
+
+def moment(line):
+    """When the reply of a line was handed over, in seconds since 1970."""
+    return datetime.datetime.fromisoformat(json.loads(line)["time"].replace("Z", "+00:00")).timestamp()
 
 
 class Logged:
     """A server with a log, and what its peers were answered."""
 
-    def __init__(self, options=()):
-        self.server = scene.listen("site.toml", options=["--log", *options])
+    def __init__(self, form, options=(), config="site.toml"):
+        self.as_json = form == "--log=json"
+        self.began = time.time()
+        self.server = scene.listen(config, options=[form, *options])
         self.peers = []
 
     def peer(self, buffer=None):
@@ -101,22 +131,33 @@ class Logged:
         status, text = self.server.end(), self.server.said().removeprefix("docs_server: new journal journal\n")
         scene.check(f"{name}: it ends", status == 0, status)
         lines = text.splitlines(keepends=True)
-        fields = [LINE.fullmatch(it) for it in lines]
-        scene.check(f"{name}: a line has six fields", all(fields), [it for it, found in zip(lines, fields) if not found][:3])
+        fields = [(told_as_json if self.as_json else told_plainly)(it) for it in lines]
+        scene.check(f"{name}: a line has its fields", all(fields), [it for it, found in zip(lines, fields) if not found][:3])
         scene.check(f"{name}: a line each", len(lines) == wanted, f"{len(lines)} of {wanted}")
+        if self.as_json and all(fields):
+            self.moments(name, lines)
         fields = [it for it in fields if it]
         self.compare(name, fields)
         decoded = urllib.parse.unquote(text)
         for it in SECRETS:
             scene.check(f"{name}: {it} stands nowhere", it not in text and it not in decoded)
-        return [int(it[6]) for it in fields]
+        return [it[6] for it in fields]
+
+    def moments(self, name, lines):
+        """The lines are in the order of their times, all of these while the server ran; and `jq` reads them, where it is there."""
+        times = [moment(it) for it in lines]
+        scene.check(f"{name}: times", times == sorted(times) and self.began - 1 < times[0] and times[-1] < time.time() + 1, times[:2])
+        if shutil.which("jq"):
+            done = subprocess.run(["jq", "-r", ".conn"], input="".join(lines).encode(), capture_output=True)
+            read = (done.returncode, done.stdout.decode().splitlines())
+            scene.check(f"{name}: jq", read == (0, [str(json.loads(it)["conn"]) for it in lines]), done.stderr[:100])
 
     def compare(self, name, fields):
         """The lines of each connection, in their order, tell what its peer asked and was answered."""
         found = {}
-        for it in fields:
-            found.setdefault(int(it[1]), []).append((it[2], it[3], int(it[4]), int(it[5])))
-        given = [[(*line, *reply) for line, reply in zip(it.asked, it.seen)] for it in self.peers]
+        for conn, reader, method, path, code, count, _ in fields:
+            found.setdefault(conn, []).append((method, path, reader, code, count))
+        given = [[(*line[:2], line[2] if self.as_json else None, *reply) for line, reply in zip(it.asked, it.seen)] for it in self.peers]
         given = [it for it in given if it]
         # numbers of connections are given in the order in which these came
         said = [found[it] for it in sorted(found)]
@@ -128,6 +169,7 @@ class Logged:
 
 # ---- what is asked
 
+QUOTES = '/page/"' + '\\"' * 600
 ONE_BY_ONE = (
     request("GET", "/page/a.md"), request("HEAD", "/page/a.md"), request("GET", "/page/a.md", PLAIN),
     request("GET", "/page/a.md", WRONG), request("GET", "/page/a.md", None), request("GET", "/page/none.md"),
@@ -140,6 +182,7 @@ ONE_BY_ONE = (
     request("GET", "/page/" + "p" * 994), request("GET", "/page/" + "p" * 995, logged=("GET", "/page/" + "p" * 994 + "...")),
     request("GET", "/page/é\u0085", logged=("GET", "/page/%C3%A9%C2%85")), request("GET", "/page/%0A%1B[2J"),
     request("GET", "/page/" + "%" * 9_000 + "?" + OWNER, logged=("GET", "/page/" + "%" * 994 + "...")),
+    request("GET", '/page/"a\\b"\\'), request("GET", QUOTES, logged=("GET", QUOTES[:1_000] + "...")),
     request("GET", "/page/a.md", fields="Cookie: " + OWNER + "\r\n"),
     request("GET", "/page/a.md", fields="Connection: close\r\n"),
 )
@@ -160,6 +203,9 @@ BAD = (
     (f"PUT /page/a.md HTTP/1.1\r\nHost: a\r\n{SECRET}Transfer-Encoding: chunked\r\n\r\n{OWNER}\r\n".encode(), "PUT", "/page/a.md"),
 )
 OPTIONS = (
+    (["--log=json"], True), (["--journal", "j", "--log=json"], True), (["--log=json", "--journal", "j"], True),
+    (["--log=json", "--log=json"], False), (["--log=json", "--log"], False), (["--log", "--log=json"], False), (["--log=JSON"], False),
+    (["--log", "json"], False),
     (["--log"], True), (["--journal", "j", "--log"], True), (["--log", "--journal", "j"], True), (["--journal", "--log"], True),
     (["--journal", "--log", "--log"], True), (["--log", "--log"], False), (["--log", "x"], False), (["--journal"], False),
     (["--log", "--journal"], False), (["--journal", "j", "--journal", "k"], False), (["--log", "--log", "--log"], False),
@@ -224,9 +270,40 @@ def slow(log):
     gone.close()
 
 
-def many():
+def sign_in(token, user="somebody"):
+    """The field of a browser's login, whose password is a token."""
+    return "Authorization: Basic " + base64.b64encode(f"{user}:{token}".encode()).decode() + "\r\n"
+
+
+def names():
+    """Who asks, as JSON has it: a name, or the number of the row, of whom the configuration knows, and `-` for all others and for guests.
+    A password counts where readers may sign in by one. What isn't a good name is none."""
+    rows = (("a", 'name = "ann"'), ("b", ""), ("c", 'name = "Ann"'), ("d", 'name = "j.doe-2_x@example.org"'), ("e", "name = 5"),
+            ("f", f'name = "{"n" * 32}"'), ("g", f'name = "{"n" * 33}"'), ("h", 'name = ""'), ("i", 'name = "ann"'),
+            ("j", 'name = "an\\"n"'))
+    good = {"a": "ann", "d": "j.doe-2_x@example.org", "f": "n" * 32, "i": "ann"}
+    readers = "".join(f'[[reader]]\ntoken = "tok-{token}-12af"\n{line}\n' for token, line in rows)
+    page = '[[page]]\npath = "a.md"\ntext = "Hello"\n'
+    SECRETS.extend(f"tok-{token}-12af" for token, _ in rows)
+    for site, browse, login in (("plain", "", False), ("guests", "[browse]\nguest = []\n", False),
+                                ("logins", '[browse]\nlogin = "basic"\n', True)):
+        put(f"{site}.toml", browse + readers + page)
+        log = Logged("--log=json", config=f"{site}.toml")
+        peer = log.peer()
+        for number, (token, _) in enumerate(rows, 1):
+            token, name = f"tok-{token}-12af", good.get(token, f"reader-{number}")
+            for asked, said in ((f"Authorization: Bearer {token}\r\n", name), (f"authorization: BEARER   {token} \r\n", name),
+                                (sign_in(token), name if login else "-"), (sign_in(token + "="), "-"), (sign_in(token, "a\x01"), "-"),
+                                (f"Authorization: Bearer {token}x\r\n", "-"), (f"Authorization: {token}\r\n", "-"),
+                                (f"Authorization: Bearer {token[:-1]}\r\n", "-"), (f"Authorization: Digest {token}\r\n", "-"), ("", "-")):
+                peer.send((*request("GET", "/page/a.md", None, fields=asked)[:3], said)).replies()
+        peer.close()
+        log.ends(f"names, {site}")
+
+
+def many(form):
     """Many peers at once, and the time of each reply."""
-    log = Logged()
+    log = Logged(form)
     peers = [log.peer() for _ in range(200)]
     for it in peers:
         it.send(request("GET", "/page/a.md")).replies()
@@ -237,8 +314,8 @@ def many():
         for it in peers:
             it.replies()
     took = (time.monotonic() - begun) * 1_000_000
-    micros = log.ends("200 peers")
-    scene.check("200 peers: microseconds", max(micros) < took + 100_000 and sum(micros) > 0, (max(micros), took))
+    micros = log.ends(f"{form}, 200 peers")
+    scene.check(f"{form}, 200 peers: microseconds", max(micros) < took + 100_000 and sum(micros) > 0, (max(micros), took))
 
 
 def answers(port):
@@ -250,16 +327,17 @@ def answers(port):
 
 def unwritten():
     """A log that can't be written, and one that isn't wanted."""
-    for name, stderr in (("a full device", open("/dev/full", "wb")), ("a closed pipe", None)):
+    broken = (("a full device", open("/dev/full", "wb")), ("a closed pipe", None))
+    for form, name, stderr in ((form, *it) for form in FORMS for it in broken):
         back, front = os.pipe()
         os.close(back)
         port = free_port()
-        it = start([scene.program, "listen", "site.toml", f"{HOST}:{port}", "--log"], stdin=subprocess.PIPE, stdout=subprocess.DEVNULL,
+        it = start([scene.program, "listen", "site.toml", f"{HOST}:{port}", form], stdin=subprocess.PIPE, stdout=subprocess.DEVNULL,
                    stderr=stderr or front)
         os.close(front)
-        scene.check(f"{name}: it answers", until(lambda: answers(port), 10) and answers(port))
+        scene.check(f"{form}, {name}: it answers", until(lambda: answers(port), 10) and answers(port))
         it.stdin.close()
-        scene.check(f"{name}: it ends", it.wait(timeout=10) == 0)
+        scene.check(f"{form}, {name}: it ends", it.wait(timeout=10) == 0)
     server = scene.listen("site.toml")
     Peer(server.port).send(request("GET", "/page/a.md")).replies().close()
     scene.check("no log: it ends", server.end() == 0)
@@ -277,15 +355,17 @@ def options():
 
 
 def main():
-    put("site.toml", f'[[reader]]\ntoken = "{OWNER}"\nowner = true\n[[reader]]\ntoken = "{PLAIN}"\n'
+    put("site.toml", f'[[reader]]\ntoken = "{OWNER}"\nowner = true\nname = "ann"\n[[reader]]\ntoken = "{PLAIN}"\n'
         '[[page]]\npath = "a.md"\ntext = "Hello"\n[[page]]\npath = "big.md"\nfile = "big.md"\n')
     put("big.md", "word " * 40_000)
-    for name, chosen in (("kept", []), ("journal", ["--journal", "journal"])):
+    for form, name, chosen in ((form, *it) for form in FORMS for it in (("kept", []), ("journal", ["--journal", "journal"]))):
         for part in (one_by_one, bad, pipelines, cut, slow):
-            log = Logged(chosen)
+            log = Logged(form, chosen)
             part(log)
-            log.ends(f"{name}, {part.__name__}")
-    many()
+            log.ends(f"{form}, {name}, {part.__name__}")
+    names()
+    for form in FORMS:
+        many(form)
     unwritten()
     options()
 

@@ -35,7 +35,8 @@ NO_ADDRESSES = ("", HOST, ":80", f"{HOST}:", f"{HOST}:65536", f"{HOST}:+1", "256
                 "localhost", "localhost:", "localhost:65536", "localhost:+1", "localhost:-1", "localhost: 1", "localhost:80x",
                 "Localhost:80", "localhost.:80", "localhost4:80", "local:80", "xlocalhost:80", "--log", "--journal")
 # the words behind CONFIG and ADDR that `listen` takes, and those behind CONFIG that the others do; FILE is any word
-GOOD = {"listen": ([], ["--log"], ["--journal", None], ["--journal", None, "--log"], ["--log", "--journal", None]),
+GOOD = {"listen": ([], ["--log"], ["--journal", None], ["--journal", None, "--log"], ["--log", "--journal", None],
+                   ["--log=json"], ["--journal", None, "--log=json"], ["--log=json", "--journal", None]),
         "lint": ([], ["--journal", None]), "compact": (["--journal", None],)}
 FRONTS = {"listen": [NOWHERE, f"{HOST}:0"], "lint": [NOWHERE], "compact": [NOWHERE]}
 
@@ -70,7 +71,8 @@ def wrong(command, words):
         if not any(begins(words[:count], good) for good in GOOD[command]):
             # an option of the command, since some good line begins with it
             known = any(word in good[:1] for good in GOOD[command])
-            return (f"{word} stands twice" if known else f"unknown option: {word}", "usage")
+            # the log's two forms are one option
+            return (f"{word.removesuffix('=json')} stands twice" if known else f"unknown option: {word}", "usage")
     if any(len(words) == len(good) and begins(words, good) for good in GOOD[command]):
         return ()
     return (f"{words[-1]} needs a file", "usage") if words else ("usage",)
@@ -106,9 +108,10 @@ def numbers_and_addresses():
 
 def options():
     """Each line of up to four words, and some of five."""
-    words = ("--journal", "--log", "j", "--Log")
+    words = ("--journal", "--log", "--log=json", "j", "--Log")
     lines = [line for count in range(5) for line in itertools.product(words, repeat=count)]
-    lines += [("--log", "--journal", "j", last, "x") for last in words] + [("--log=json",), ("--journal=j",), ("-log",), ("--",), ("-",)]
+    lines += [("--log", "--journal", "j", last, "x") for last in words]
+    lines += [("--log=",), ("--log=text",), ("--log=JSON",), ("--log", "json"), ("--journal=j",), ("-log",), ("--",), ("-",)]
     for command, front in FRONTS.items():
         for line in map(list, lines):
             stops([command, *front, *line], *(wrong(command, line) or (UNDERSTOOD,)))
@@ -153,10 +156,17 @@ def meanings():
             scene.check(f"the journal of {line}", os.path.exists(journal))
 
 
+# a line of the log by its option
+LOGGED = {"--log": r"1 GET /page/a\.md 200 \d+ \d+",
+          "--log=json": r'\{"time":"[-\d]{10}T[:\d]{8}\.\d{6}Z","conn":1,"reader":"reader-1","method":"GET","path":"/page/a\.md",'
+                        r'"code":200,"bytes":\d+,"us":\d+\}'}
+
+
 def logs():
-    """A request has a line on standard error with `--log`, wherever that stands, and none without."""
+    """A request has a line on standard error with `--log` or `--log=json`, wherever that stands, and none without."""
     for address, line in ((HOST, []), (HOST, ["--log"]), ("localhost", []), ("localhost", ["--log"]),
-                          ("localhost", ["--journal", "k", "--log"]), ("localhost", ["--log", "--journal", "k"])):
+                          ("localhost", ["--journal", "k", "--log"]), ("localhost", ["--log", "--journal", "k"]),
+                          (HOST, ["--log=json"]), ("localhost", ["--journal", "k", "--log=json"])):
         port = free_port()
         server = start([scene.program, "listen", "good.toml", f"{address}:{port}", *line], stdin=subprocess.PIPE, stdout=subprocess.PIPE,
                        stderr=subprocess.PIPE)
@@ -166,7 +176,8 @@ def logs():
         client.close()
         said = server.communicate(timeout=20)[1]
         lines = [it for it in said.decode().splitlines() if not it.startswith("docs_server: ")]
-        right = [bool(re.fullmatch(r"1 GET /page/a\.md 200 \d+ \d+", it)) for it in lines] == ["--log" in line] * ("--log" in line)
+        form = next((it for it in line if it in LOGGED), None)
+        right = len(lines) == (form is not None) and all(re.fullmatch(LOGGED[form], it) for it in lines)
         scene.check(f"{address} {line}", (told, code, server.returncode) == (f"listening {address}:{port}\n".encode(), 200, 0) and right,
                     f"{told} {code} {server.returncode} {said}")
 

@@ -11,7 +11,7 @@ use Rattle.doc_store_readers.specs.declared.readers.ReaderError.TheVariants as r
 use Rattle.doc_hub_answers.specs.Replies.{Renders}
 use Rattle.doc_hub_events.specs.Events.{Said, SaidReader, SaidSite}
 use Rattle.doc_hub.specs.Runs.{Happens, HappensReader, HappensSite}
-use Rattle.doc_hub.specs.Worlds.{World, world_moved, world_put, world_reader_removed, world_reader_set, world_removed}
+use Rattle.doc_hub.specs.Worlds.{World, world_moved, world_put, world_reader_removed, world_reader_set, world_readers_set, world_removed}
 use Rattle.doc_hub_events.specs.declared.event.Event.{Event}
 use Rattle.doc_hub_events.specs.declared.event.Event.TheVariants as events
 use Rattle.doc_hub_events.specs.declared.event.ReaderEdit.{ReaderEdit}

@@ -1,5 +1,5 @@
 -- Lines of words, worked.
-use Rattle.std.specs.Prelude.{◌≡◌, ℕ, List, [], ◌∷◌, ◌++◌, Bool, true, false, length, nat_le, codes, Some, None, Ok, Err, Option, replicate, refl}
+use Rattle.std.specs.Prelude.{◌≡◌, ℕ, List, [], ◌∷◌, ◌++◌, true, length, nat_le, codes, Some, None, Ok, Err, Option, replicate, refl}
 use Rattle.std.specs.List.{list_all}
 use Rattle.std.specs.Str.Lines.{lines}
 use Rattle.std.specs.declared.net.socket_addr.SocketAddr.{SocketAddr}
@@ -7,6 +7,8 @@ use Rattle.std.specs.Net.Reader.{read_socket_v4, read_socket_v6, read_ipv4, read
 use Rattle.percent_encoding.specs.AsciiSet.{should_percent_encode}
 use Rattle.percent_encoding.specs.Percent.{percent_encode, percent_encode_byte}
 use Rattle.doc_server_arguments.specs.declared.help.TheConstants.{HELP}
+use Rattle.doc_server_arguments.specs.declared.log_form.LogForm.{LogForm}
+use Rattle.doc_server_arguments.specs.declared.log_form.LogForm.TheVariants.{Plain, Json}
 use Rattle.doc_server_arguments.specs.Addresses.{address_of, listen_address_of, v4_of, v6_of}
 use Rattle.doc_server_arguments.specs.Commands.{Asked, command_in, Demo, Render, Examples, Check, Replay, Serve, Listen, Compact, Folders, Lint, Version, Help}
 use Rattle.doc_server_arguments.specs.ShownWords.{shown_word}
@@ -130,28 +132,28 @@ serve_at_localhost = refl
 abbrev listen_with : List (List ℕ) → List (List ℕ)
 listen_with options = codes "listen" ∷ codes "site.toml" ∷ codes "localhost:80" ∷ options
 
-abbrev listening : Option (List ℕ) → Bool → Asked
+abbrev listening : Option (List ℕ) → Option LogForm → Asked
 listening journal log = Listen (codes "site.toml") (codes "localhost:80") (local 80) journal log
 
-listen : command_in (listen_with []) ≡ Ok (listening None false)
+listen : command_in (listen_with []) ≡ Ok (listening None None)
 unfolding address_of read_socket_v4 read_ipv4 read_octet read_number read_port
 listen = refl
 
-listen_with_journal : command_in (listen_with (codes "--journal" ∷ codes "j" ∷ [])) ≡ Ok (listening (Some (codes "j")) false)
+listen_with_journal : command_in (listen_with (codes "--journal" ∷ codes "j" ∷ [])) ≡ Ok (listening (Some (codes "j")) None)
 unfolding address_of read_socket_v4 read_ipv4 read_octet read_number read_port
 listen_with_journal = refl
 
-listen_with_both : command_in (listen_with (codes "--journal" ∷ codes "j" ∷ codes "--log" ∷ [])) ≡ Ok (listening (Some (codes "j")) true)
+listen_with_both : command_in (listen_with (codes "--journal" ∷ codes "j" ∷ codes "--log" ∷ [])) ≡ Ok (listening (Some (codes "j")) (Some Plain))
 unfolding address_of read_socket_v4 read_ipv4 read_octet read_number read_port
 listen_with_both = refl
 
 listen_the_other_way : command_in (listen_with (codes "--log" ∷ codes "--journal" ∷ codes "j" ∷ []))
-    ≡ Ok (listening (Some (codes "j")) true)
+    ≡ Ok (listening (Some (codes "j")) (Some Plain))
 unfolding address_of read_socket_v4 read_ipv4 read_octet read_number read_port
 listen_the_other_way = refl
 
 -- what stands behind `--journal` is its file
-journal_of_that_name : command_in (listen_with (codes "--journal" ∷ codes "--log" ∷ [])) ≡ Ok (listening (Some (codes "--log")) false)
+journal_of_that_name : command_in (listen_with (codes "--journal" ∷ codes "--log" ∷ [])) ≡ Ok (listening (Some (codes "--log")) None)
 unfolding address_of read_socket_v4 read_ipv4 read_octet read_number read_port
 journal_of_that_name = refl
 
@@ -173,6 +175,28 @@ journal_twice_without_file = refl
 log_twice : command_in (listen_with (codes "--log" ∷ codes "--log" ∷ codes "what" ∷ [])) ≡ Err (StandsTwice (codes "--log"))
 unfolding address_of read_socket_v4 read_ipv4 read_octet read_number read_port
 log_twice = refl
+
+listen_with_json : command_in (listen_with (codes "--log=json" ∷ [])) ≡ Ok (listening None (Some Json))
+unfolding address_of read_socket_v4 read_ipv4 read_octet read_number read_port
+listen_with_json = refl
+
+-- the log has two words, and is one option
+both_forms : command_in (listen_with (codes "--log" ∷ codes "--log=json" ∷ [])) ≡ Err (StandsTwice (codes "--log"))
+unfolding address_of read_socket_v4 read_ipv4 read_octet read_number read_port
+both_forms = refl
+
+both_forms_the_other_way : command_in (listen_with (codes "--log=json" ∷ codes "--journal" ∷ codes "j" ∷ codes "--log" ∷ []))
+    ≡ Err (StandsTwice (codes "--log"))
+unfolding address_of read_socket_v4 read_ipv4 read_octet read_number read_port
+both_forms_the_other_way = refl
+
+json_twice : command_in (listen_with (codes "--log=json" ∷ codes "--log=json" ∷ [])) ≡ Err (StandsTwice (codes "--log"))
+unfolding address_of read_socket_v4 read_ipv4 read_octet read_number read_port
+json_twice = refl
+
+no_other_form : command_in (listen_with (codes "--log=text" ∷ [])) ≡ Err (UnknownOption (codes "--log=text"))
+unfolding address_of read_socket_v4 read_ipv4 read_octet read_number read_port
+no_other_form = refl
 
 unknown_first : command_in (listen_with (codes "what" ∷ codes "--log" ∷ codes "--log" ∷ [])) ≡ Err (UnknownOption (codes "what"))
 unfolding address_of read_socket_v4 read_ipv4 read_octet read_number read_port
@@ -198,6 +222,9 @@ compact_without_file = refl
 
 compact_with_log : command_in (codes "compact" ∷ codes "site.toml" ∷ codes "--log" ∷ []) ≡ Err (UnknownOption (codes "--log"))
 compact_with_log = refl
+
+compact_with_json : command_in (codes "compact" ∷ codes "site.toml" ∷ codes "--log=json" ∷ []) ≡ Err (UnknownOption (codes "--log=json"))
+compact_with_json = refl
 
 compact_and_more : command_in (codes "compact" ∷ codes "site.toml" ∷ codes "--journal" ∷ codes "j" ∷ codes "x" ∷ [])
     ≡ Err (UnknownOption (codes "x"))

@@ -1,6 +1,7 @@
 -- What a line of words asks for: the arguments behind the name of the program.
-use Rattle.std.specs.Prelude.{ℕ, List, [], ◌∷◌, Bool, bytes_eq, codes, Option, Some, None, Result, Ok, Err, if◌then◌else◌}
+use Rattle.std.specs.Prelude.{ℕ, List, [], ◌∷◌, bytes_eq, codes, Option, Some, None, Result, Ok, Err, if◌then◌else◌}
 use Rattle.std.specs.declared.net.socket_addr.SocketAddr.{SocketAddr}
+use Rattle.doc_server_arguments.specs.declared.log_form.LogForm.{LogForm}
 use Rattle.doc_server_arguments.specs.declared.options.Known.TheVariants as known
 use Rattle.doc_server_arguments.specs.Addresses.{address_of, listen_address_of}
 use Rattle.doc_server_arguments.specs.Numbers.{count_of}
@@ -15,7 +16,7 @@ pub data Asked : Type 0 where
   Check : (config token : List ℕ) → Asked
   Replay : (config : List ℕ) → Asked
   Serve : (config written : List ℕ) (address : SocketAddr) (count turns : ℕ) → Asked
-  Listen : (config written : List ℕ) (address : SocketAddr) (journal : Option (List ℕ)) (log : Bool) → Asked
+  Listen : (config written : List ℕ) (address : SocketAddr) (journal : Option (List ℕ)) (log : Option LogForm) → Asked
   Compact : (config journal : List ℕ) → Asked
   Folders : (config : List ℕ) → Asked
   Lint : (config : List ℕ) (journal : Option (List ℕ)) → Asked
@@ -63,7 +64,7 @@ abbrev pub listen_at : List ℕ → List ℕ → Option SocketAddr → List (Lis
 listen_at config written None options = Err NoAddress
 listen_at config written (Some address) options = listen_saying config written address (options_in known.All options)
 
--- `listen CONFIG ADDR [--journal FILE] [--log]`
+-- `listen CONFIG ADDR [--journal FILE] [--log | --log=json]`
 abbrev pub listen_in : List (List ℕ) → Result Asked Wrong
 listen_in (config ∷ written ∷ options) = listen_at config written (listen_address_of written) options
 listen_in words = Err NoCommand

@@ -1,11 +1,12 @@
 -- Options taken one after the other.
-use Rattle.std.specs.Prelude.{ℕ, List, [], ◌∷◌, true, not, bytes_eq, Option, Some, None, option_copied, Result, Ok, Err, String, if◌then◌else◌}
+use Rattle.std.specs.Prelude.{ℕ, List, [], ◌∷◌, not, bytes_eq, Option, Some, None, option_copied, Result, Ok, Err, String, if◌then◌else◌}
 use Rattle.std.specs.Borrow.{Bor}
 use Rattle.std.specs.List.{list_any}
+use Rattle.doc_server_arguments.specs.declared.log_form.LogForm.{LogForm}
 use Rattle.doc_server_arguments.specs.declared.options.Known.{Known}
 use Rattle.doc_server_arguments.specs.declared.options.Options.{Options}
 use Rattle.doc_server_arguments.specs.declared.usage_fault.UsageFault.{UsageFault}
-use Rattle.doc_server_arguments.specs.Options.{Said, Stated, names_of, takes_file, stated}
+use Rattle.doc_server_arguments.specs.Options.{Said, Stated, form_of, log_word, names_of, takes_file, stated}
 use Rattle.doc_server_arguments.specs.Texts.{texts}
 use Rattle.doc_server_arguments.specs.Usage.{Wrong, UnknownOption, StandsTwice, NeedsFile, fault_shown}
 
@@ -23,12 +24,17 @@ journal_taken said word (Some before) file = Err (StandsTwice word)
 journal_taken said word None None = Err (NeedsFile word)
 journal_taken said word None (Some file) = Ok (record said { journal = Some file })
 
+-- the log in this form, by what an earlier option said of it
+abbrev pub log_taken : Said → LogForm → Option LogForm → Result Said Wrong
+log_taken said form (Some before) = Err (StandsTwice log_word)
+log_taken said form None = Ok (record said { log = Some form })
+
 -- what is said with one option more
 abbrev pub taken_one : Known → Said → Stated → Result Said Wrong
 taken_one known said option =
     if not (list_any (bytes_eq option.word) (names_of known)) then Err (UnknownOption option.word)
     else (if takes_file option.word then journal_taken said option.word said.journal option.file
-    else (if said.log then Err (StandsTwice option.word) else Ok (record said { log = true })))
+    else log_taken said (form_of option.word) said.log)
 
 -- what a function says of what is said
 abbrev pub onward : (Said → Result Said Wrong) → Result Said Wrong → Result Said Wrong

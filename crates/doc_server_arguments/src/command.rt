@@ -1,5 +1,6 @@
 //! What the arguments ask for.
 
+use crate::log_form::LogForm;
 use std::net::SocketAddr;
 
 /// What the arguments ask for.
@@ -62,8 +63,8 @@ pub struct Listen<'a> {
     pub address: SocketAddr,
     /// The file of the journal, where there is one.
     pub journal: Option<&'a str>,
-    /// Whether each request is logged.
-    pub log: bool,
+    /// How each request is logged, where it is.
+    pub log: Option<LogForm>,
 }
 
 /// A journal that is written anew, of the site that its edits lead to.

@@ -105,7 +105,7 @@ fn serve_of(words: &[String]) -> Result<Command<'_>, UsageFault<'_>>
     }))
 }
 
-/// `listen CONFIG ADDR [--journal FILE] [--log]`
+/// `listen CONFIG ADDR [--journal FILE] [--log | --log=json]`
 fn listen_of(words: &[String]) -> Result<Command<'_>, UsageFault<'_>>
     ensures { shown_command result ≡ listen_in (texts words.now) }
 {

@@ -16,4 +16,5 @@ examples FILE                                compares the examples of CommonMark
 --version                                    prints the version, and which journals are read
 --help                                       prints this
 
-ADDR is an IP address and a port, as 127.0.0.1:8080; for listen also localhost:8080.";
+ADDR is an IP address and a port, as 127.0.0.1:8080; for listen also localhost:8080.
+--log tells each request on standard error; --log=json does so as JSON, an object a line.";

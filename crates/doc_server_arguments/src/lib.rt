@@ -6,6 +6,7 @@ mod address;
 pub mod command;
 pub mod command_line;
 pub mod help;
+pub mod log_form;
 mod number;
 mod options;
 mod shown_word;

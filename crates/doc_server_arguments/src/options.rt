@@ -3,15 +3,16 @@
 ghost use Rattle.std.specs.Prelude.{◌≡◌, ◌∷◌, ◌≤◌, IfOk, length, option_copied};
 ghost use Rattle.doc_server_arguments.specs.Texts.{texts};
 ghost use Rattle.doc_server_arguments.specs.Options.{options_in, stated};
-ghost use Rattle.doc_server_arguments.specs.OptionSteps.{file_behind, said_so_far, shown_file, shown_options, taken_all, taken_behind};
+ghost use Rattle.doc_server_arguments.specs.OptionSteps.{file_behind, log_taken, said_so_far, shown_file, shown_options, taken_all, taken_behind};
 
+use crate::log_form::LogForm;
 use crate::usage_fault::UsageFault;
 use doc_page_parts::heap::String;
 
 /// Which options a command has.
 #[derive(Clone, Copy, Debug, PartialEq, Eq)]
 pub(crate) enum Known {
-    /// `--journal FILE` and `--log`.
+    /// `--journal FILE`, and `--log` or `--log=json`.
     All,
     /// `--journal FILE` alone.
     Journal,
@@ -22,8 +23,8 @@ pub(crate) enum Known {
 pub(crate) struct Options<'a> {
     /// The file of the journal, where there is one.
     pub(crate) journal: Option<&'a str>,
-    /// Whether each request is logged.
-    pub(crate) log: bool,
+    /// How each request is logged, where it is.
+    pub(crate) log: Option<LogForm>,
 }
 
 /// The options that these words are.
@@ -35,7 +36,7 @@ pub(crate) fn options_of<'a>(
 {
     let mut options = Options {
         journal: None,
-        log: false,
+        log: None,
     };
     let mut rest = words;
     'options: while let Some((option, behind)) = rest.split_first() {
@@ -64,19 +65,28 @@ fn taken<'a>(
             Ok((Options { journal, ..options }, rest))
         }
         ("--log", Known::All) => {
-            if options.log {
-                return Err(UsageFault::StandsTwice(option));
-            }
-            Ok((
-                Options {
-                    log: true,
-                    ..options
-                },
-                behind,
-            ))
+            let options = logged(options, LogForm::Plain)?;
+            Ok((options, behind))
+        }
+        ("--log=json", Known::All) => {
+            let options = logged(options, LogForm::Json)?;
+            Ok((options, behind))
         }
         _ => Err(UsageFault::UnknownOption(option)),
     }
+}
+
+/// The options with a log of this form. It is one option in its two forms, and stands once.
+fn logged(options: Options<'_>, form: LogForm) -> Result<Options<'_>, UsageFault<'_>>
+    ensures { shown_options result ≡ log_taken (said_so_far options.entry) form options.entry.log }
+{
+    if options.log.is_some() {
+        return Err(UsageFault::StandsTwice("--log"));
+    }
+    Ok(Options {
+        log: Some(form),
+        ..options
+    })
 }
 
 /// The file of an option, which says what stood before, and the words behind it.

@@ -3,5 +3,4 @@ pub mod Linting
 pub mod Listening
 pub mod Moving
 pub mod NamedDevices
-pub mod RequestLines
 pub mod Serving

@@ -1,11 +1,14 @@
-//! The log of requests: a line on standard error for each that was answered. No field of a request stands in it, and so no token.
+//! The log of requests: a line on standard error for each that was answered. No field of a request stands in it, and so no token; in
+//! place of one the name of its reader may.
 
+use crate::stamp::Stamp;
 use crate::unanswered::Unanswered;
 use doc_page_parts::failure::Memory;
 use doc_page_parts::heap::{BTreeMap, Heap, String};
+use doc_server_log_names::answered::Answered;
+use doc_server_log_names::lines::Lines;
 use doc_server_network::handed::Handed;
 use doc_server_network::watch::Watch;
-use std::fmt::Write;
 use std::rt::Clock;
 use std::time::Instant;
 
@@ -18,6 +21,7 @@ const MOST_BYTES: usize = 16_384;
 pub struct AccessLog<'a, P> {
     rt: &'a P,
     heap: Heap,
+    form: Lines,
     /// By the number of the connection.
     unanswered: BTreeMap<u64, Unanswered>,
     line: String,
@@ -25,18 +29,22 @@ pub struct AccessLog<'a, P> {
     lines: String,
     /// When it began.
     began: Option<Instant>,
+    /// When its replies were handed over.
+    handed: Stamp,
 }
 
 impl<'a, P: Clock + Eprint> AccessLog<'a, P> {
     /// A log in which nothing stands.
-    pub fn new(rt: &'a P, heap: Heap) -> AccessLog<'a, P> {
+    pub fn new(rt: &'a P, heap: Heap, form: Lines) -> AccessLog<'a, P> {
         AccessLog {
             rt,
             heap,
+            form,
             unanswered: BTreeMap::new(heap),
             line: String::new(heap),
             lines: String::new(heap),
             began: None,
+            handed: Stamp::Unread,
         }
     }
 
@@ -45,11 +53,15 @@ impl<'a, P: Clock + Eprint> AccessLog<'a, P> {
         let Some(unanswered) = self.unanswered.get_mut(&id) else {
             return Ok(());
         };
+        let answered = Answered {
+            time: self.handed.moment(self.rt),
+            connection: id,
+            code: reply.code,
+            bytes: reply.bytes,
+            micros: Instant::now(self.rt).map_or(0, |now| unanswered.waited(now)),
+        };
         self.line.clear();
-        write!(self.line, "{id} ")?;
-        unanswered.take(&mut self.line)?;
-        let micros = Instant::now(self.rt).map_or(0, |now| unanswered.waited(now));
-        write!(self.line, " {} {} {}\n", reply.code, reply.bytes, micros)?;
+        unanswered.take(self.heap, &self.form, &mut self.line, &answered)?;
         let _ = self.lines.push_str(self.line.as_str());
         Ok(())
     }
@@ -67,6 +79,7 @@ impl<'a, P: Clock + Eprint> AccessLog<'a, P> {
 impl<P: Clock + Eprint> Watch for AccessLog<'_, P> {
     fn begin_turn(&mut self) {
         self.began = Instant::now(self.rt).ok();
+        self.handed = Stamp::Unread;
     }
 
     fn joined(&mut self, id: u64) {

@@ -22,6 +22,7 @@ use doc_server_config::folder_pages::FolderMedium;
 use doc_server_config::overlap::{first_medium_overlap, first_overlap};
 use doc_server_config::page_row::PageRow;
 use doc_server_config::readme::{Move, free_moves};
+use doc_server_log_names::names::Names;
 use std::rt::Files;
 
 /// A configured site with the bounds of a server that runs.
@@ -34,6 +35,8 @@ pub struct Bounded {
     pub moves: List<Move>,
     /// The bad files that its folders pass over.
     pub passed: List<BadFile>,
+    /// Its readers, as the log names them.
+    pub names: Names,
 }
 
 /// Pages with those of folders behind them.
@@ -51,6 +54,7 @@ pub struct Opened {
     site: Site,
     bounds: Bounds,
     folders: List<Folder>,
+    names: Names,
 }
 
 /// The site of the configuration of this name, its folders' pages behind its own, and its bounds. Folders are read last; `Twice` has
@@ -80,6 +84,7 @@ pub fn bounded_of<R: AllocGlobal + Clone + Drop + Files>(
         site,
         bounds,
         folders,
+        names,
     } = opened;
     let Site { pages, entities } = site;
     let Gathered {
@@ -94,6 +99,7 @@ pub fn bounded_of<R: AllocGlobal + Clone + Drop + Files>(
         media,
         moves,
         passed,
+        names,
     })
 }
 
@@ -107,6 +113,7 @@ pub fn read_all_folders<R: AllocGlobal + Clone + Drop + Eprint + Files>(
         site,
         bounds,
         folders,
+        names: _,
     } = open(rt, heap, name)?;
     let Site { pages, entities: _ } = site;
     let rows = pages.config.pages.get();
@@ -161,11 +168,13 @@ pub fn opened_of<R: Files>(rt: &R, heap: Heap, written: Written) -> Result<Opene
         config,
         bounds,
         folders,
+        names,
     } = written;
     Ok(Opened {
         site: site_of(rt, heap, config)?,
         bounds,
         folders,
+        names,
     })
 }
 

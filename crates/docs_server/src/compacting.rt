@@ -52,6 +52,7 @@ fn pages_of<P: AllocGlobal + Clone + Drop + Eprint + Files>(
         media: _,
         moves,
         passed,
+        names: _,
     } = read_bounded(rt, config)?;
     tell_passed(rt, passed.get());
     let Site { pages, entities: _ } = site;

@@ -116,6 +116,7 @@ fn pages_of<R: AllocGlobal + Clone + Drop + Files>(
         media: _,
         moves,
         passed: _,
+        names: _,
     } = bounded_of(rt, heap, opened)?;
     let Site { pages, entities: _ } = site;
     Ok((pages, moves))

@@ -20,21 +20,33 @@ use doc_hub::hub::Hub;
 use doc_media::media::Media;
 use doc_page::renderer::Renderer;
 use doc_page_parts::heap::Heap;
+use doc_page_parts::list::List;
 use doc_server::site::site_hub_beside;
 use doc_server_arguments::command::Listen;
+use doc_server_arguments::log_form::LogForm;
 use doc_server_config::bounds::Bounds;
+use doc_server_config::config::SiteConfig;
 use doc_server_config::readme::Move;
 use doc_server_hosting::ended::Ended;
 use doc_server_hosting::fault::HostingFault;
 use doc_server_hosting::host::Host;
 use doc_server_hosting::hosting::host_site;
 use doc_server_hosting::terms::Terms;
+use doc_server_log_names::lines::{Askers, Lines};
 use doc_server_serving::limits::Limits;
 use std::fs::{File, metadata};
 use std::net::Net;
 use std::os::unix::fs::FileTypeExt;
 use std::rt::{Clock, Files};
 use std::sync::ledger::{Blank, Ledger};
+
+/// A site that is ready to be served.
+struct Ready {
+    pages: Pages,
+    media: Option<Media>,
+    /// The moves that are made on its pages, once they stand.
+    moves: List<Move>,
+}
 
 /// Where the system tells what standard input is.
 const INPUT: &str = "/proc/self/fd/0";
@@ -56,19 +68,25 @@ pub fn run_listen<
                 media,
                 moves,
                 passed,
+                names,
             },
         ) => {
             tell_passed(rt, passed.get());
             let Site { pages, entities } = site;
+            let login = takes_logins(&pages.config);
+            let form = lines_of(command.log, Askers { names, login });
+            let log = log_of(rt, form);
             let renderer: CommonMark<L> = CommonMark::with_front(
                 entities,
                 blank,
                 pages.config.markdown.front,
             );
-            status_of(
-                rt,
-                listen_with(rt, renderer, pages, media, moves.get(), bounds, command),
-            )
+            let ready = Ready {
+                pages,
+                media,
+                moves,
+            };
+            status_of(rt, listen_with(rt, renderer, ready, bounds, command, log))
         }
         Err(fault) => status_of(rt, Err(fault)),
     }
@@ -82,16 +100,20 @@ fn listen_with<
 >(
     rt: &P,
     renderer: R,
-    pages: Pages,
-    media: Option<Media>,
-    moves: &[Move],
+    ready: Ready,
     bounds: Bounds,
     command: &Listen<'_>,
+    log: Option<AccessLog<'_, P>>,
 ) -> Result<u8, ListenFault> {
     let heap = rt.alloc();
+    let Ready {
+        pages,
+        media,
+        moves,
+    } = ready;
     let Pages { config, texts } = pages;
     let mut hub = site_hub_beside(heap, renderer, config, texts.get(), media)?;
-    make_moves(&mut hub, moves)?;
+    make_moves(&mut hub, moves.get())?;
     let _held = hold(rt, heap, command.config)?;
     let host = System {
         rt,
@@ -100,28 +122,29 @@ fn listen_with<
         address: command.address,
         ends_with_input: is_pipe(rt),
     };
-    let ended = listen_on(rt, heap, &host, hub, &bounds, command)?;
+    let ended = listen_on(rt, heap, &host, hub, &bounds, command.journal, log)?;
     ended_status(&ended)
 }
 
-/// Serves a hub that has the pages of the configuration, on a host, with the journal that the arguments name, if they do.
+/// Serves a hub that has the pages of the configuration, on a host, with the journal and the log that the arguments name, if they do.
 fn listen_on<'a, H: Host, R: Renderer + Drop, P: Clock + Eprint>(
     rt: &'a P,
     heap: Heap,
     host: &H,
     hub: Hub<R>,
     bounds: &Bounds,
-    command: &Listen<'_>,
+    journal: Option<&str>,
+    log: Option<AccessLog<'a, P>>,
 ) -> Result<Ended<H::Device, H::Network, R, AccessLog<'a, P>>, HostingFault<H::Fault>>
     ensures hosted { IfOk result (λ ended. IsHosted H.Device.seen H.Device.may_leave
         H.Device.failed H.Device.stale H.Device.moment H.Device.left_since (R.page hub.0)
-        (H.file host.now) (option_copied command.now.journal) hub.1 ended.saved
+        (H.file host.now) (option_copied journal.entry) hub.1 ended.saved
         (H.Network.came ended.net) (H.Network.gone ended.net) (ended.served ≡ Ok tt)) }
     ensures woken { IfOk result (λ ended. AreWoken (H.Network.wakes ended.net) ended.server.peers) }
     ensures bound { IfOk result (λ ended. map.len ended.server.peers ≤ bounds.now.connections) }
 {
     let terms = Terms {
-        journal: command.journal,
+        journal,
         connections: bounds.connections,
         limits: Limits {
             idle_seconds: bounds.idle_seconds,
@@ -129,12 +152,31 @@ fn listen_on<'a, H: Host, R: Renderer + Drop, P: Clock + Eprint>(
             request_seconds: bounds.request_seconds,
         },
     };
-    let log = if command.log {
-        Some(AccessLog::new(rt, heap))
-    } else {
-        None
-    };
     host_site(rt, heap, host, hub, &terms, log)
+}
+
+/// The lines of the log that the arguments ask for, if they do.
+fn lines_of(log: Option<LogForm>, askers: Askers) -> Option<Lines> {
+    match log? {
+        LogForm::Plain => Some(Lines::Plain),
+        LogForm::Json => Some(Lines::Json(askers)),
+    }
+}
+
+/// A log of such lines.
+fn log_of<P: AllocGlobal + Clock + Eprint>(
+    rt: &P,
+    form: Option<Lines>,
+) -> Option<AccessLog<'_, P>> {
+    Some(AccessLog::new(rt, rt.alloc(), form?))
+}
+
+/// Whether readers may sign in by a password.
+fn takes_logins(config: &SiteConfig) -> bool {
+    match &config.browse {
+        Some(browse) => browse.login,
+        None => false,
+    }
 }
 
 /// Whether standard input is a pipe, whose end ends the server. The end of a terminal or a socket is no word to it.

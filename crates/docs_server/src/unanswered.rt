@@ -1,10 +1,11 @@
 //! What came on a connection and isn't answered yet, as the log knows it.
 
-use crate::request_line::{first_line, push_request_line};
 use doc_http::request::Next;
 use doc_http::unread::Unread;
 use doc_page_parts::failure::Memory;
 use doc_page_parts::heap::{Heap, String};
+use doc_server_log_names::answered::Answered;
+use doc_server_log_names::lines::Lines;
 use std::time::Instant;
 
 /// What came on a connection and isn't answered yet: the same bytes as the server's, which reads them in the same way.
@@ -38,26 +39,24 @@ impl Unanswered {
         }
     }
 
-    /// Writes method and target of the next request, and takes it.
-    pub fn take(&mut self, out: &mut String) -> Result<(), Memory> {
+    /// Writes the line of the next request, which was answered so, and takes it.
+    pub fn take(
+        &mut self,
+        heap: Heap,
+        lines: &Lines,
+        out: &mut String,
+        answered: &Answered,
+    ) -> Result<(), Memory> {
         match self.unread.next_request()? {
             Next::Request { used, request } => {
-                push_request_line(out, request.method.get(), request.target.get())?;
+                lines.push_request(heap, out, answered, &request)?;
                 self.unread.take_front(used);
             }
             Next::Fault { .. } | Next::More => {
-                push_first_line(out, self.unread.get())?;
+                lines.push_bytes(out, answered, self.unread.get())?;
                 self.unread.clear();
             }
         }
         Ok(())
-    }
-}
-
-/// Writes what is known of bytes that are no request.
-fn push_first_line(out: &mut String, bytes: &[u8]) -> Result<(), Memory> {
-    match first_line(bytes) {
-        Some((method, target)) => push_request_line(out, method, target),
-        None => push_request_line(out, "", ""),
     }
 }

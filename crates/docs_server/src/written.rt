@@ -1,6 +1,8 @@
 //! What the document of a configuration says of a server that runs.
 
 ghost use Rattle.std.specs.Prelude.{IfOk};
+ghost use Rattle.toml.specs.View.{table_view};
+ghost use Rattle.doc_server_log_names.specs.Names.{AreNamesOf};
 ghost use Rattle.docs_server.specs.Listening.{IsOwn};
 
 use crate::files::config_of;
@@ -14,6 +16,7 @@ use doc_server_config::config::SiteConfig;
 use doc_server_config::document::Document;
 use doc_server_config::folder::Folder;
 use doc_server_config::listening::{Listening, ListeningError};
+use doc_server_log_names::names::Names;
 use doc_server_streams::fault::Fault;
 
 /// What a document says of a server that runs.
@@ -22,19 +25,25 @@ pub struct Written {
     pub config: SiteConfig,
     pub bounds: Bounds,
     pub folders: List<Folder>,
+    /// Its readers, as the log names them.
+    pub names: Names,
 }
 
 /// What a document says of a server that runs, with its pages for people.
 pub fn written_in(heap: Heap, document: &Document) -> Result<Written, ListenFault>
-    ensures { IfOk result (λ written. IsOwn written.config) }
+    ensures own { IfOk result (λ written. IsOwn written.config) }
+    ensures names { IfOk result
+        (λ written. AreNamesOf (table_view document.now.table) written.names) }
 {
     let mut config = config_of(heap, document)?;
     let Listening { bounds, folders } = listening_of(heap, document)?;
     config.browse = browse_of(heap, document)?;
+    let names = Names::of_document(heap, &document.table)?;
     Ok(Written {
         config,
         bounds,
         folders,
+        names,
     })
 }
 

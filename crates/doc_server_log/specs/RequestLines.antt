@@ -3,7 +3,7 @@ use Rattle.std.specs.Prelude.{ℕ, List, [], ◌∷◌, ◌++◌, Bool, false, n
 use Rattle.std.specs.Char.{is_ascii_uppercase}
 use Rattle.std.specs.List.{list_all, before_first}
 use Rattle.percent_encoding.specs.Percent.{percent_encode}
-use Rattle.docs_server.specs.declared.request_line.TheConstants.{HIDDEN}
+use Rattle.doc_server_log.specs.declared.request_line.TheConstants.{HIDDEN}
 
 -- a method that is written: 1 to 16 capital letters
 abbrev pub is_shown : List ℕ → Bool

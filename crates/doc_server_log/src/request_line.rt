@@ -4,7 +4,7 @@
 ghost use Rattle.std.specs.Prelude.{◌≡◌, ◌++◌, ◌∷◌, string_bytes, OnOk};
 ghost use Rattle.std.specs.Char.{is_ascii_uppercase};
 ghost use Rattle.std.specs.List.{list_all};
-ghost use Rattle.docs_server.specs.RequestLines.{before_query, is_shown, shown_method, shown_path, shown_target};
+ghost use Rattle.doc_server_log.specs.RequestLines.{before_query, is_rooted, is_shown, shown_method, shown_path, shown_target};
 
 use doc_http_bodies::slices::front;
 use doc_page_parts::failure::Memory;
@@ -15,10 +15,10 @@ use percent_encoding::{AsciiSet, CONTROLS, ascii_set, percent_encode};
 const METHOD_LIMIT: usize = 16;
 
 /// How many bytes of a path are written.
-const PATH_LIMIT: usize = 1_000;
+pub(crate) const PATH_LIMIT: usize = 1_000;
 
 /// What is written by a number: controls, spaces, and all that isn't ASCII.
-const HIDDEN: AsciiSet = ascii_set!(CONTROLS.add(b' '));
+pub(crate) const HIDDEN: AsciiSet = ascii_set!(CONTROLS.add(b' '));
 
 /// Method and target of the first line of bytes that are no request, where that line has the form of a request's.
 pub fn first_line(bytes: &[u8]) -> Option<(&str, &str)> {
@@ -50,7 +50,7 @@ pub fn push_request_line(out: &mut String, method: &str, target: &str) -> Result
 }
 
 /// Writes a method, `-` where it isn't 1 to 16 capital letters.
-fn push_method(out: &mut String, method: &str) -> Result<(), Memory>
+pub(crate) fn push_method(out: &mut String, method: &str) -> Result<(), Memory>
     ensures { OnOk result
         (string_bytes out.new ≡ string_bytes out.old ++ shown_method method.now) }
 {
@@ -81,7 +81,7 @@ fn push_target(out: &mut String, target: &str) -> Result<(), Memory>
         (string_bytes out.new ≡ string_bytes out.old ++ shown_target target.now) }
 {
     let path = before_query(target);
-    if path.starts_with('/') {
+    if is_rooted(path) {
         push_path(out, path.as_bytes())?;
     } else {
         out.push_str("-")?;
@@ -89,8 +89,15 @@ fn push_target(out: &mut String, target: &str) -> Result<(), Memory>
     Ok(())
 }
 
+/// Whether it begins with a slash.
+pub(crate) fn is_rooted(path: &str) -> bool
+    ensures { result ≡ is_rooted path.now }
+{
+    path.starts_with('/')
+}
+
 /// What stands before the first `?`.
-fn before_query(target: &str) -> &str
+pub(crate) fn before_query(target: &str) -> &str
     ensures { result.now ≡ before_query target.now }
 {
     match target.split_once('?') {

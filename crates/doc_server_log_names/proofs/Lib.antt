@@ -1,0 +1,3 @@
+mod Examples
+pub mod FieldSteps
+pub mod NameSteps
