@@ -64,5 +64,5 @@ no_rows names tables none is digest =
 -- what isn't found doesn't stand
 pub lacks : (found : Option (Bor ListedReader)) (known : Option ListedReader) → option_copied found ≡ known → is_some found ≡ false
     → is_some known ≡ false
-lacks None known is no = ap is_some (sym is)
-lacks (Some x) known is no = absurd (cc)
+lacks None known is absent = ap is_some (sym is)
+lacks (Some x) known is absent = absurd (cc)
