@@ -15,7 +15,8 @@ pub enum Stamp {
 impl Stamp {
     /// The moment, which is read where it wasn't yet.
     pub fn moment<C: Clock>(&mut self, clock: &C) -> Option<Moment> {
-        match *self {
+        let stamp = *self;
+        match stamp {
             Stamp::Read(moment) => moment,
             Stamp::Unread => {
                 let moment = moment_of(clock);
