@@ -15,14 +15,12 @@ pub enum Stamp {
 impl Stamp {
     /// The moment, which is read where it wasn't yet.
     pub fn moment<C: Clock>(&mut self, clock: &C) -> Option<Moment> {
-        let stamp = *self;
-        match stamp {
-            Stamp::Read(moment) => moment,
-            Stamp::Unread => {
-                let moment = moment_of(clock);
-                *self = Stamp::Read(moment);
-                moment
-            }
+        if matches!(self, Stamp::Unread) {
+            *self = Stamp::Read(moment_of(clock));
+        }
+        match self {
+            Stamp::Read(moment) => *moment,
+            Stamp::Unread => None,
         }
     }
 }
