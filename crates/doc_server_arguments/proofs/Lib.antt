@@ -1,7 +1,6 @@
 mod ArgumentsExamples
 mod Digits
 mod Fronts
-mod GivenLaws
 mod OptionLaws
 mod Ports
 mod Reading
