@@ -108,7 +108,8 @@ def files_of(program, origin, words):
 
     with open(program, "rb") as file:
         put("usr/bin/docs_server", file.read(), True)
-    put("usr/libexec/docs-server/listen", read(f"{HERE}/listen"), True)
+    for name in ("join", "listen", "reload"):
+        put(f"usr/libexec/docs-server/{name}", read(f"{HERE}/{name}"), True)
     put(f"usr/lib/systemd/system/{NAME}.service", read(f"{HERE}/{NAME}.service"))
     put(f"usr/lib/sysusers.d/{NAME}.conf", read(f"{HERE}/{NAME}.sysusers"))
     put("etc/docs-server/site.toml", read(f"{HERE}/site.toml"))

@@ -23,7 +23,7 @@ scene = Scene(seconds=600, at_top=True, needs=["curl", "man=man-db", "groff", "m
 INCLUDED = "systemd,systemd-sysv,dbus,sse4.2-support"
 READERS, SITE, JOURNAL = "/etc/docs-server/readers.toml", "/etc/docs-server/site.toml", "/var/lib/docs-server/journal"
 KNOWN = ("tok-owner", "tok-ann", "tok-bob", "tok-ben", "tok")
-RUNS = ("usr/bin/docs_server", "usr/libexec/docs-server/listen")
+RUNS = ("usr/bin/docs_server", *(f"usr/libexec/docs-server/{it}" for it in ("join", "listen", "reload")))
 PLAIN = {"PATH": "/usr/sbin:/usr/bin:/sbin:/bin", "LC_ALL": "C", "DEBIAN_FRONTEND": "noninteractive"}
 TOKEN = re.compile(r'(?m)^token = "([0-9a-f]{48})"$')
 

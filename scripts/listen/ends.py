@@ -42,7 +42,7 @@ class Started:
             return "it went on", self.process.communicate()[1].decode()
 
 
-def goes_on(name, started, ends=None):
+def goes_on(name, started, ends=None, said=""):
     """It answers, also a while later; then it is killed, or ended by a call."""
     scene.check(f"{name}: it answers", until(started.answers, 10))
     time.sleep(0.7)
@@ -50,7 +50,7 @@ def goes_on(name, started, ends=None):
     if ends:
         ends()
         found = started.ended()
-        scene.check(f"{name}: it ends", found == (0, ""), found)
+        scene.check(f"{name}: it ends", found == (0, said), found)
     else:
         started.process.kill()
         started.process.communicate()
@@ -58,12 +58,12 @@ def goes_on(name, started, ends=None):
 
 def pipes():
     """Standard input as a pipe: closed later, written to, and closed at first."""
-    for name, sent in (("a pipe", b""), ("a pipe that is written to", b"quit\n" * 100)):
+    for name, sent in (("a pipe", 0), ("a pipe that is written to", 100)):
         back, front = os.pipe()
         started = Started(back)
         os.close(back)
-        os.write(front, sent)
-        goes_on(name, started, lambda: os.close(front))
+        os.write(front, b"quit\n" * sent)
+        goes_on(name, started, lambda: os.close(front), "unknown line\n" * sent)
     back, front = os.pipe()
     os.close(front)
     started = Started(back)

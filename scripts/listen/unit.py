@@ -69,6 +69,27 @@ def killed(command, port):
     scene.check("a kill of the program is a failure of the unit", status == 137, status)
 
 
+def reloaded(command, port):
+    """The unit's reload: other readers are taken, and a bad configuration is refused before the server is asked."""
+    unit, site = Unit(command), f"{scene.scratch}/site/site.toml"
+    scene.check("it listens once more", until(lambda: listens(port), 20))
+    with open(UNIT) as file:
+        asks = re.search(r"(?m)^ExecReload=(.*)$", file.read())[1].replace("$$", "$")
+    words = {"RUNTIME_DIRECTORY": f"{scene.scratch}/run", "PATH": f"{scene.scratch}/bin:/usr/bin:/bin"}
+
+    def reload():
+        return subprocess.run(asks, shell=True, cwd=f"{scene.scratch}/site", env=words, stdout=subprocess.DEVNULL).returncode == 0
+
+    put(site, OWNER + OWNER.replace('"tok"', '"tak"'))
+    scene.check("a reload", reload() and until(lambda: Client(port, "tak").ask("/page/a.md")[0] == 200, 10))
+    put(site, OWNER + "[[reader]]\n")
+    scene.check("a bad configuration", not reload() and Client(port, "tak").ask("/page/a.md")[0] == 200)
+    put(site, OWNER)
+    unit.shell.terminate()
+    found = unit.ends(10)
+    scene.check("what was told", found == (0, "reload: 2 readers\n"), found)
+
+
 def damaged(command):
     put(f"{scene.scratch}/state/journal", "no journal")
     found = Unit(command).ends(10)
@@ -94,6 +115,7 @@ def main():
     put(f"{scene.scratch}/site/site.toml", OWNER)
     ended_in_order(command, port)
     killed(command, port)
+    reloaded(command, port)
     damaged(command)
     verified()
 

@@ -15,7 +15,9 @@ from journals import written as journal_of
 
 scene = Scene(seconds=600, seconds_each=1, numbers=(200, 1), told="{right} of {all} as they should be")
 TOKEN = "a-token-that-nobody-guesses-soon"
-READER = f'[[reader]]\ntoken = "{TOKEN}"\nowner = true\ngroups = ["team"]\n'
+KEY, OTHER_KEY = (f'token_sha256 = "{sha256(it.encode()).hexdigest()}"' for it in (TOKEN, TOKEN + "2"))
+READER = f'[[reader]]\n{KEY}\nowner = true\ngroups = ["team"]\n'
+CLEAR = "warning: a token in clear text; `docs_server token` makes one that isn't"
 PAGE = '[[page]]\npath = "a.md"\ntext = "A"\n'
 FOLDER = '[[folder]]\npath = "folder"\n'
 GOOD = READER + PAGE
@@ -120,16 +122,22 @@ def tables():
 
 def readers():
     for line, text in READER_FAULTS.items():
-        told(line, f'{GOOD}[[reader]]\ntoken = "{TOKEN}2"\n{line}\n', f":8: reader 2: {text}")
+        told(line, f'{GOOD}[[reader]]\n{OTHER_KEY}\n{line}\n', f":8: reader 2: {text}")
     told("no token", GOOD + "[[reader]]\n", ":8: reader 2: no `token`")
     told("no text", GOOD + "[[reader]]\ntoken = 1\n", ":8: reader 2: `token` must be a string")
     told("no bearer token", GOOD + '[[reader]]\ntoken = "a b"\n', ":8: reader 2: `token` is no bearer token")
-    told("twice", GOOD + f'[[reader]]\ntoken = "{TOKEN}"\n', ":8: reader 2: the token of reader 1")
-    told("twice by digest", GOOD + f'[[reader]]\ntoken_sha256 = "{sha256(TOKEN.encode()).hexdigest()}"\n', ":8: reader 2: the token of reader 1")
+    told("twice", GOOD + f'[[reader]]\ntoken = "{TOKEN}"\n', ":8: reader 2: the token of reader 1", f":8: reader 2: {CLEAR}")
+    told("twice by digest", GOOD + f"[[reader]]\n{KEY}\n", ":8: reader 2: the token of reader 1")
+    told("in clear", GOOD + f'[[reader]]\ntoken = "{TOKEN}2"\n', f":8: reader 2: {CLEAR}")
+    for name in ("ann", "n" * 32, "j.doe-2_x@example.org"):
+        told(f"name {name}", GOOD + f'[[reader]]\n{OTHER_KEY}\nname = "{name}"\n')
+    for name in ('"Ann"', '""', f'"{"n" * 33}"', '"a b"', "5", '["ann"]'):
+        told(f"name {name}", GOOD + f"[[reader]]\n{OTHER_KEY}\nname = {name}\n",
+             ":8: reader 2: warning: `name` must be 1 to 32 of a-z, 0-9, `-`, `_`, `.` and `@`")
     told("no digest", GOOD + '[[reader]]\ntoken_sha256 = "ab"\n', ":8: reader 2: `token_sha256` is bad")
     told("both", GOOD + f'[[reader]]\ntoken = "{TOKEN}2"\ntoken_sha256 = "{64 * "0"}"\n', ":8: reader 2: both `token` and `token_sha256`")
     told("short", GOOD + '[[reader]]\ntoken = "tok"\n', ":8: reader 2: warning: a token of fewer than 22 characters can be guessed")
-    told("onwer", GOOD + f'[[reader]]\ntoken = "{TOKEN}2"\nonwer = true\n', ":8: reader 2: warning: unknown key `onwer`: is `owner` meant?")
+    told("onwer", GOOD + f'[[reader]]\n{OTHER_KEY}\nonwer = true\n', ":8: reader 2: warning: unknown key `onwer`: is `owner` meant?")
 
 
 def pages():
@@ -285,7 +293,7 @@ def pairs():
     """Two at once: both are told, the document's before the rows', and faults before warnings."""
     for (first, one), (second, other) in itertools.product(TOP_FAULTS.items(), list(READER_FAULTS.items())[:3]):
         if first.split(" ")[0] != "browse":
-            told(f"{first}, {second}", f'{first}\n{GOOD}[[reader]]\ntoken = "{TOKEN}2"\n{second}\n', f": {one}", f":9: reader 2: {other}")
+            told(f"{first}, {second}", f'{first}\n{GOOD}[[reader]]\n{OTHER_KEY}\n{second}\n', f": {one}", f":9: reader 2: {other}")
     told("warning and fault", "colour = 1\n" + GOOD + "[[reader]]\n", ":9: reader 2: no `token`", ": warning: unknown key `colour`")
 
 

@@ -7,11 +7,12 @@ use Rattle.doc_hub.specs.Runs.{Happened, Runs}
 use Rattle.doc_hub.specs.Worlds.{World, store_of}
 use Rattle.doc_hub.proofs.RunParts.{runs_join}
 use Rattle.doc_server_network.specs.Crashes.{CrashesLeave}
+use Rattle.doc_server_network.specs.Readers.{ReaderTable}
 use Rattle.doc_server_network.specs.Saved.{IsSettled}
 use Rattle.doc_server_network.specs.declared.saved_hub.SavedHub.{SavedHub}
 use Rattle.doc_server_serving.specs.Crashing.{AreKnown, RestoresFront}
 use Rattle.doc_server_serving.specs.Invariants.{HasServedNobody, IsServed}
-use Rattle.doc_server_serving.specs.Leading.{Leads, LeadsQuietly}
+use Rattle.doc_server_serving.specs.Leading.{LeadsQuietly, LeadsWith}
 use Rattle.doc_server_serving.proofs.Crashing.{leaves_weaker}
 use Rattle.doc_server_serving.specs.Wirings.{Table}
 use Rattle.doc_store.specs.Store.{StoreState}
@@ -48,22 +49,23 @@ module _ (config : StoreState) (render page : Renders) (w v : World) (same : pag
 
 module _ {D R : Type 0} (seen : D → Option (List ℕ)) (may_leave : D → List ℕ → Type 0) (failed : D → Bool) (stale : D → ℕ → Type 0)
     (moment : D → ℕ) (left_since : D → ℕ → List ℕ → Type 0) (render page : Renders) (file : List ℕ → Option (List ℕ))
-    (name : Option (List ℕ)) (w : World) (saved ended : SavedHub D R) (came gone : ℕ → Option (List ℕ)) (ends_well : Type 0) where
+    (name : Option (List ℕ)) (w : World) (saved ended : SavedHub D R) (gave : ReaderTable → Type 0) (came gone : ℕ → Option (List ℕ))
+    (ends_well : Type 0) where
   pub hosted : page ≡ render → IsMadeReady seen may_leave failed stale render file name w saved
-      → (s : Leads page saved.hub.1 ended.hub.1) × IsServed s.run came gone
+      → (s : LeadsWith gave page saved.hub.1 ended.hub.1) × IsServed s.run came gone
       × ((config : StoreState) → AreKnown seen → IsSettled seen may_leave failed stale config saved
       → CrashesLeave seen moment left_since (RestoresFront config page saved.hub.1 s.run) saved.journal ended.journal)
       → ((config : StoreState) → IsSettled seen may_leave failed stale config saved → ends_well
       → IsSettled seen may_leave failed stale config ended)
-      → IsHosted seen may_leave failed stale moment left_since render file name w ended came gone ends_well
+      → IsHosted seen may_leave failed stale moment left_since gave render file name w ended came gone ends_well
   hosted same made served settled =
-      let both = behind render page made.begin saved.hub.1 ended.hub.1 same made.quiet served.0 in record {
+      let both = behind render page made.begin saved.hub.1 ended.hub.1 same made.quiet gave served.0 in record {
         begin = made.begin;
         begins = made.begins;
         journal = saved.journal;
         keeps = made.keeps;
         leads = both;
-        served = served_behind render page made.begin saved.hub.1 ended.hub.1 same made.quiet served.0 came gone served.1;
+        served = served_behind render page made.begin saved.hub.1 ended.hub.1 same made.quiet gave served.0 came gone served.1;
         settled = λ well of_calls apart. settled (store_of w) (made.settled of_calls apart) well;
         any_moment = λ known of_calls apart.
             leaves_weaker seen moment left_since (RestoresFront (store_of w) page saved.hub.1 served.0.run)

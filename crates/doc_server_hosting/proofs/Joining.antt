@@ -1,7 +1,7 @@
 -- A run that nobody hears or is sent anything by, and another behind it.
 use Rattle.std.proofs.Common.{◌≡◌, ◌++◌, ℕ, List, [], ◌∷◌, Bool, refl, sym, ap, subst, ◌∙◌}
 use Rattle.std.specs.Prelude.{Option}
-use Rattle.std.proofs.lemmas.List.Elements.{All-append, All-cons, All-nil}
+use Rattle.std.proofs.lemmas.List.Elements.{All-append, All-cons, All-nil, All-weaker}
 use Rattle.doc_hub_answers.specs.Replies.{Renders}
 use Rattle.doc_hub_events.specs.Events.{outcome_of}
 use Rattle.doc_hub_events.specs.declared.event.Event.TheVariants as events
@@ -9,9 +9,11 @@ use Rattle.doc_hub.specs.RunParts.{pushed_on}
 use Rattle.doc_hub.specs.Runs.{Happened, Runs, first, nothing, sent_on}
 use Rattle.doc_hub.specs.Worlds.{World, world_taking}
 use Rattle.doc_hub.proofs.RunParts.{pushed_join, runs_join, sent_join}
+use Rattle.doc_server_network.specs.Readers.{ReaderTable}
 use Rattle.doc_server_serving.specs.Invariants.{IsServed}
-use Rattle.doc_server_serving.specs.Leading.{IsOfPeers, Leads, LeadsQuietly}
+use Rattle.doc_server_serving.specs.Leading.{IsOfPeers, IsOfServer, LeadsQuietly, LeadsWith}
 use Rattle.doc_server_serving.specs.Wirings.{HearsFront, IsFront}
+use Rattle.doc_server_serving.proofs.Leading.{peers_serve}
 
 abbrev pub IsOwn : Happened → Type 0
 IsOwn h = IsOfPeers h.event
@@ -39,12 +41,14 @@ quietly_taking render w v takes is =
       sends = λ k. refl;
     }
 
-module _ (render page : Renders) (w v u : World) (same : page ≡ render) (q : LeadsQuietly render w v) (s : Leads page v u) where
-  abbrev pub behind : Leads render w u
+module _ (render page : Renders) (w v u : World) (same : page ≡ render) (q : LeadsQuietly render w v)
+    (gave : ReaderTable → Type 0) (s : LeadsWith gave page v u) where
+  abbrev pub behind : LeadsWith gave render w u
   behind = record {
     run = q.leads.run ++ s.run;
     runs = runs_join render w v u q.leads.run s.run q.leads.runs (subst (λ r. Runs r v s.run u) same s.runs);
-    own = All-append IsOwn q.leads.run s.run q.leads.own s.own;
+    own = All-append (λ h. IsOfServer gave h.event) q.leads.run s.run
+        (All-weaker IsOwn (λ h. IsOfServer gave h.event) (λ h is. peers_serve gave h.event is) q.leads.run q.leads.own) s.own;
   }
 
   pub served_behind : (came gone : ℕ → Option (List ℕ)) → IsServed s.run came gone → IsServed behind.run came gone

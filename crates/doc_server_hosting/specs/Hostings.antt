@@ -6,12 +6,13 @@ use Rattle.doc_server_journal.specs.declared.journal.Journal.{Journal}
 use Rattle.doc_server_journal_records.specs.Readings.{ReadsAs}
 use Rattle.doc_server_network.specs.KeptTurns.{IsOfCalls}
 use Rattle.doc_server_restore.specs.Restores.{restored}
+use Rattle.doc_server_network.specs.Readers.{ReaderTable}
 use Rattle.doc_server_network.specs.Crashes.{CrashesLeave}
 use Rattle.doc_server_network.specs.Saved.{IsAllSaved, IsReady, IsSettled}
 use Rattle.doc_server_network.specs.declared.saved_hub.SavedHub.{SavedHub}
 use Rattle.doc_server_serving.specs.Crashing.{AreKnown, RestoresFront}
 use Rattle.doc_server_serving.specs.Invariants.{IsServed}
-use Rattle.doc_server_serving.specs.Leading.{Leads, LeadsQuietly}
+use Rattle.doc_server_serving.specs.Leading.{LeadsQuietly, LeadsWith}
 
 -- puts are taken from here on, or aren't
 abbrev pub TakesPuts : World → World → Type 0
@@ -42,18 +43,18 @@ module _ {D R : Type 0} (seen : D → Option (List ℕ)) (may_leave : D → List
     pub settled : IsOfCalls begin.site → IsApart begin.site begin.media → IsSettled seen may_leave failed stale (store_of w) saved
 
   module _ (moment : D → ℕ) (left_since : D → ℕ → List ℕ → Type 0) where
-    -- How a site was served. Peers found the configured world behind the edits of its journal. From there a run of their events led to the
-    -- world at the end: on each connection a front of what it sent there was handed over, and nothing else, and what it pushed there is
+    -- How a site was served. Peers found the configured world behind the edits of its journal. From there a run of their events, and of
+    -- readers that were given, led to the world at the end: on each connection a front of what it sent there was handed over, and nothing else, and what it pushed there is
     -- a front of what came. Where the site that peers found was as calls make it, apart from its media, the next start over the same
     -- configuration has the site that stands, if the server ended because it was told to; and whatever a crash at any moment leaves of
     -- the journal gives it the site behind a front of the run.
-    pub record IsHosted (render : Renders) (file : List ℕ → Option (List ℕ)) (name : Option (List ℕ)) (w : World) (saved : SavedHub D R)
-        (came gone : ℕ → Option (List ℕ)) (ends_well : Type 0) : Type 0 where
+    pub record IsHosted (gave : ReaderTable → Type 0) (render : Renders) (file : List ℕ → Option (List ℕ)) (name : Option (List ℕ))
+        (w : World) (saved : SavedHub D R) (came gone : ℕ → Option (List ℕ)) (ends_well : Type 0) : Type 0 where
       pub begin : World
       pub begins : Begins file name w begin
       pub journal : Option (Journal D)
       pub keeps : is_some journal ≡ is_some name
-      pub leads : Leads render begin saved.hub.1
+      pub leads : LeadsWith gave render begin saved.hub.1
       pub served : IsServed leads.run came gone
       pub settled : ends_well → IsOfCalls begin.site → IsApart begin.site begin.media
           → IsSettled seen may_leave failed stale (store_of w) saved

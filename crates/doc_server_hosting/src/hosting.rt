@@ -9,7 +9,7 @@ ghost use Rattle.doc_server_network.specs.Networks.{end_of_input};
 ghost use Rattle.doc_server_network.specs.Saved.{IsAllSaved, IsReady, IsSettled};
 ghost use Rattle.doc_server_serving.specs.Crashing.{AreKnown, RestoresFront};
 ghost use Rattle.doc_server_serving.specs.Invariants.{HasServedNobody, IsServed};
-ghost use Rattle.doc_server_serving.specs.Leading.{Leads};
+ghost use Rattle.doc_server_serving.specs.Leading.{LeadsWith};
 ghost use Rattle.doc_server_serving.specs.Wirings.{AreWoken};
 ghost use Rattle.doc_store.specs.Store.{StoreState};
 
@@ -29,23 +29,26 @@ use doc_server_network::watched::Watched;
 use doc_server_serving::fault::ServeFault;
 use doc_server_serving::named_file::NamedFile;
 use doc_server_serving::server::Server;
+use doc_server_serving::source::Source;
 use std::rt::Clock;
 use std::time::Instant;
 
 /// Serves a hub that has the pages of a configuration, with the journal that the terms name, if they do, until it is told to stop. Somebody
-/// may watch what passes, and is handed back. All pages stand, and the journal's edits are made, before the address is bound; peers are accepted behind the word
-/// that it is. At an `Err` nobody was accepted.
-pub fn host_site<H: Host, R: Renderer + Drop, C: Clock, W: Watch + Drop>(
+/// may watch what passes, and is handed back. The readers are the hub's, and from some turn on those that the source gives. All pages stand,
+/// and the journal's edits are made, before the address is bound; peers are accepted behind the word that it is. At an `Err` nobody was
+/// accepted.
+pub fn host_site<H: Host, R: Renderer + Drop, C: Clock, W: Watch + Drop, S: Source>(
     rt: &C,
     heap: Heap,
     host: &H,
     hub: Hub<R>,
     terms: &Terms<'_>,
     watch: Option<W>,
+    source: &mut S,
 ) -> Result<Ended<H::Device, H::Network, R, W>, HostingFault<H::Fault>>
     ensures hosted { IfOk result (λ ended. IsHosted H.Device.seen H.Device.may_leave
-        H.Device.failed H.Device.stale H.Device.moment H.Device.left_since (R.page hub.0)
-        (H.file host.now) (option_copied terms.now.journal) hub.1 ended.saved
+        H.Device.failed H.Device.stale H.Device.moment H.Device.left_since
+        (S.gave source.new) (R.page hub.0) (H.file host.now) (option_copied terms.now.journal) hub.1 ended.saved
         (H.Network.came ended.net) (H.Network.gone ended.net) (ended.served ≡ Ok tt)) }
     ensures woken { IfOk result (λ ended. AreWoken (H.Network.wakes ended.net) ended.server.peers) }
     ensures bound { IfOk result (λ ended. map.len ended.server.peers ≤ terms.now.connections) }
@@ -57,8 +60,11 @@ pub fn host_site<H: Host, R: Renderer + Drop, C: Clock, W: Watch + Drop>(
     let server = new_server(rt, heap, terms)?;
     let net = bound(heap, host)?;
     match watch {
-        Some(watch) => Ok(serve(rt, server, Watched::new(heap, net, watch), saved).unwatched()),
-        None => Ok(serve(rt, server, net, saved)),
+        Some(watch) => {
+            let net = Watched::new(heap, net, watch);
+            Ok(serve(rt, server, net, saved, source).unwatched())
+        }
+        None => Ok(serve(rt, server, net, saved, source)),
     }
 }
 
@@ -103,12 +109,14 @@ fn serve<
     R: Renderer + Drop,
     W: Watch + Drop,
     C: Clock,
->(rt: &C, server: Server, net: N, saved: SavedHub<D, R>) -> Ended<D, N, R, W>
+    S: Source,
+>(rt: &C, server: Server, net: N, saved: SavedHub<D, R>, source: &mut S) -> Ended<D, N, R, W>
     requires all { IsAllSaved saved }
     requires ready { IsReady D.seen D.may_leave D.failed D.stale saved }
     requires new { HasServedNobody saved.hub.1.given (N.came net) (N.gone net)
         (N.is_free net) server.peers }
-    ensures served { (s : Leads (R.page saved.hub.0) saved.hub.1 result.saved.hub.1)
+    ensures served { (s : LeadsWith (S.gave source.new) (R.page saved.hub.0)
+        saved.hub.1 result.saved.hub.1)
         × IsServed s.run (N.came result.net) (N.gone result.net)
         × ((config : StoreState) → AreKnown D.seen
         → IsSettled D.seen D.may_leave D.failed D.stale config saved
@@ -126,7 +134,7 @@ fn serve<
     let mut server = server;
     let mut net = net;
     let mut saved = saved;
-    let served = server.serve(rt, &mut net, &mut saved);
+    let served = server.serve(rt, &mut net, &mut saved, source);
     Ended {
         saved,
         net,

@@ -7,7 +7,8 @@ use Rattle.doc_server_lint.specs.declared.place.Place.TheVariants.{Document, Mar
 use Rattle.doc_server_lint.specs.declared.what.Kind.{Kind}
 use Rattle.doc_server_lint.specs.declared.what.Kind.TheVariants as kind
 use Rattle.doc_server_lint.specs.declared.what.What.{What}
-use Rattle.doc_server_lint.specs.declared.what.What.TheVariants.{MustBe, Bad, Missing, Unknown, NoToken, TwoTokens, TokenOf, ShortToken, NoReaders}
+use Rattle.doc_server_lint.specs.declared.what.What.TheVariants.{MustBe, Bad, Missing, Unknown, NoToken, TwoTokens, TokenOf, ShortToken, ClearToken, NoName}
+use Rattle.doc_server_lint.specs.declared.what.What.TheVariants.{NoReaders}
 use Rattle.doc_server_lint.specs.declared.what.What.TheVariants.{NoOwner}
 use Rattle.doc_server_lint.specs.declared.what.What.TheVariants.{NoGroup, ManyGroups, Unheld, NoPath, NoSource, TwoSources, LongText}
 use Rattle.doc_server_lint.specs.declared.what.What.TheVariants.{Covers}
@@ -46,6 +47,8 @@ what_text key NoToken = named (codes "`") key (codes "` is no bearer token")
 what_text key TwoTokens = codes "both `token` and `token_sha256`"
 what_text key (TokenOf reader) = numbered (codes "the token of reader ") reader []
 what_text key ShortToken = codes "a token of fewer than 22 characters can be guessed"
+what_text key ClearToken = codes "a token in clear text; `docs_server token` makes one that isn't"
+what_text key NoName = named (codes "`") key (codes "` must be 1 to 32 of a-z, 0-9, `-`, `_`, `.` and `@`")
 what_text key NoReaders = codes "no readers"
 what_text key NoOwner = codes "no owner"
 what_text key (NoGroup name) = named (codes "`") key (codes "`: \"") ++ named [] name (codes "\" is no name of a group")

@@ -41,6 +41,12 @@ abbrev pub reader_keys : Keys
 reader_keys =
     (codes "token", Text form.Token) ∷ (codes "token_sha256", Text form.Digest) ∷ (codes "owner", Boolean) ∷ (codes "groups", Groups) ∷ []
 
+-- those that are known of a reader: what its log goes by stops nobody
+abbrev pub known_reader_keys : Keys
+known_reader_keys =
+    (codes "token", Text form.Token) ∷ (codes "token_sha256", Text form.Digest) ∷ (codes "owner", Boolean) ∷ (codes "groups", Groups)
+    ∷ (codes "name", Text form.Any) ∷ []
+
 abbrev pub page_keys : Keys
 page_keys =
     (codes "path", Needed form.PagePath) ∷ (codes "groups", Groups) ∷ (codes "text", Text form.PageText) ∷

@@ -102,6 +102,15 @@ pub(crate) const READER_KEYS: &[(&str, Rule)] = &[
     ("groups", Rule::Groups),
 ];
 
+/// The keys that are known of a reader: what its log goes by stops nobody.
+pub(crate) const KNOWN_READER_KEYS: &[(&str, Rule)] = &[
+    ("token", Rule::Text(Form::Token)),
+    ("token_sha256", Rule::Text(Form::Digest)),
+    ("owner", Rule::Boolean),
+    ("groups", Rule::Groups),
+    ("name", Rule::Text(Form::Any)),
+];
+
 /// The keys of a page.
 pub(crate) const PAGE_KEYS: &[(&str, Rule)] = &[
     ("path", Rule::Needed(Form::PagePath)),

@@ -35,6 +35,10 @@ pub enum What {
     TokenOf(usize),
     /// The token has fewer than 22 characters.
     ShortToken,
+    /// The token stands in clear text.
+    ClearToken,
+    /// The key holds no name of a reader.
+    NoName,
     NoReaders,
     /// No reader is an owner.
     NoOwner,

@@ -28,6 +28,16 @@ pub(crate) fn push_what(out: &mut String, key: &str, what: &What) -> Result<(), 
         What::NoToken => push_named(out, "`", key, "` is no bearer token"),
         What::TokenOf(reader) => push_numbered(out, "the token of reader ", *reader, ""),
         What::ShortToken => push(out, "a token of fewer than 22 characters can be guessed"),
+        What::ClearToken => push(
+            out,
+            "a token in clear text; `docs_server token` makes one that isn't",
+        ),
+        What::NoName => push_named(
+            out,
+            "`",
+            key,
+            "` must be 1 to 32 of a-z, 0-9, `-`, `_`, `.` and `@`",
+        ),
         What::NoReaders => push(out, "no readers"),
         What::NoOwner => push(out, "no owner"),
         What::NoGroup(name) => {

@@ -49,7 +49,7 @@ impl ReaderName {
 
 /// Whether these are 1 to 32 bytes of a name.
 #[tactic(auto, unfolding(crate::specs::Names::is_name))]
-fn is_name(text: &[u8]) -> bool
+pub fn is_name(text: &[u8]) -> bool
     ensures { result ≡ is_name text.now }
 {
     !text.is_empty() && text.len() <= NAME_LIMIT && has_name_bytes(text)

@@ -11,9 +11,12 @@ use Rattle.doc_hub_events.specs.declared.refusal.ConnectError.{ConnectError}
 use Rattle.doc_hub_events.specs.declared.refusal.ConnectError.TheVariants as connect_errors
 use Rattle.doc_hub_events.specs.declared.refusal.PushError.{PushError}
 use Rattle.doc_hub_events.specs.declared.refusal.PushError.TheVariants as push_errors
+use Rattle.doc_hub_events.specs.declared.event.ReaderEdit.TheVariants as reader_edits
 use Rattle.doc_hub.specs.Connections.{new_connection}
 use Rattle.doc_hub.specs.Runs.{Happens}
 use Rattle.doc_hub.specs.Worlds.{World, connected, last_id, world_pushed}
+use Rattle.doc_store_readers.specs.Readers.{ReaderTable}
+use Rattle.doc_store_readers.specs.declared.readers.ReaderError.{ReaderError}
 
 pub record IsSameSite (w v : World) : Type 0 where
   pub site : v.site ≡ w.site
@@ -60,6 +63,14 @@ module _ (render : Renders) (w v : World) where
   disconnects id said happens =
       subst (λ (g : World × Bool). IsQuiet w g.0) happens
       (record { same = record { site = refl; media = refl; puts = refl }; taking = refl })
+
+  pub sets_readers : (readers : ReaderTable) → Happens render w (events.Reader (reader_edits.All readers)) v (Ok tt) → IsQuiet w v
+  sets_readers readers happens =
+      subst (λ (g : World × Result (Unit {0}) ReaderError). IsQuiet w g.0) happens
+      (record { same = record { site = refl; media = refl; puts = refl }; taking = refl })
+
+  pub readers_give : (readers : ReaderTable) → Happens render w (events.Reader (reader_edits.All readers)) v (Ok tt) → v.given ≡ w.given
+  readers_give readers happens = subst (λ (g : World × Result (Unit {0}) ReaderError). g.0.given ≡ w.given) happens refl
 
   pub takes : (takes : Bool) → Happens render w (events.TakePuts takes) v tt → IsSameSite w v
   takes puts happens = subst (IsSameSite w) (sym happens) (record { site = refl; media = refl; puts = refl })

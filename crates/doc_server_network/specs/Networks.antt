@@ -69,6 +69,10 @@ Recalls old new = (c : Call) → old c → new c
 abbrev pub end_of_input : Call
 end_of_input = Tells (Some tolds.InputEnds)
 
+-- the network has told that something has come there
+abbrev pub input_came : Call
+input_came = Tells (Some tolds.Input)
+
 -- it was waited for
 abbrev pub WasWaitedFor : (Call → Type 0) → Type 0
 WasWaitedFor made = (r : Result ⊤ NetFault) × made (Waits r)

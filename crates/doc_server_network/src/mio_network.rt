@@ -42,12 +42,12 @@ pub struct MioNetwork {
 }
 
 impl MioNetwork {
-    /// A network that listens at this address, without a connection. It tells of the end of standard input where that is wanted.
+    /// A network that listens at this address, without a connection. It tells of standard input where that is wanted.
     pub fn bind<R: Net>(
         rt: &R,
         heap: Heap,
         address: SocketAddr,
-        ends_with_input: bool,
+        hears_input: bool,
     ) -> Result<MioNetwork, NetFault> {
         let Ok((poll, listener)) = opened(rt, address) else {
             return Err(NetFault);
@@ -55,7 +55,7 @@ impl MioNetwork {
         let Ok(events) = Events::with_capacity(heap, MOST_EVENTS) else {
             return Err(NetFault);
         };
-        if ends_with_input {
+        if hears_input {
             watch_input(&poll);
         }
         Ok(MioNetwork {
@@ -106,7 +106,7 @@ fn opened<R: Net>(rt: &R, address: SocketAddr) -> std::io::Result<(Poll, TcpList
     Ok((poll, listener))
 }
 
-/// Has the poll tell of the end of standard input, which isn't read.
+/// Has the poll tell of standard input, which isn't read here.
 fn watch_input(poll: &Poll) {
     let _ = poll.registry().register(
         &mut SourceFd(&STANDARD_INPUT),
@@ -115,21 +115,21 @@ fn watch_input(poll: &Poll) {
     );
 }
 
-/// What an event tells. Of standard input nothing but its end does.
-fn told_by(event: &Event) -> Option<Told> {
+/// What an event tells. Where standard input has ended nothing else is told of it.
+fn told_by(event: &Event) -> Told {
     match event.token().0 {
-        LISTENER => Some(Told::Door),
+        LISTENER => Told::Door,
         INPUT => {
             if event.is_read_closed() {
-                Some(Told::InputEnds)
+                Told::InputEnds
             } else {
-                None
+                Told::Input
             }
         }
-        number => Some(Told::Connection {
+        number => Told::Connection {
             id: number as u64,
             is_gone: event.is_write_closed(),
-        }),
+        },
     }
 }
 
@@ -159,13 +159,9 @@ impl Network for MioNetwork {
     }
 
     fn told(&mut self) -> Option<Told> {
-        'events: for event in self.events.iter().skip(self.told) {
-            self.told = self.told.saturating_add(1);
-            if let Some(told) = told_by(event) {
-                return Some(told);
-            }
-        }
-        None
+        let event = self.events.iter().nth(self.told)?;
+        self.told = self.told.saturating_add(1);
+        Some(told_by(event))
     }
 
     fn accept(&mut self, id: u64) -> Accepted {

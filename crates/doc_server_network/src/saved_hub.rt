@@ -6,6 +6,7 @@ ghost use Rattle.doc_hub.specs.Runs.{Happens};
 ghost use Rattle.doc_hub.specs.Worlds.{IsApart, World};
 ghost use Rattle.doc_hub_events.specs.Events.{disconnect_on, push_on, step_on};
 ghost use Rattle.doc_hub_events.specs.declared.event.Event.TheVariants as events;
+ghost use Rattle.doc_hub_events.specs.declared.event.ReaderEdit.TheVariants as reader_edits;
 ghost use Rattle.doc_server_journal.specs.Journals.{IsOpen};
 ghost use Rattle.doc_server_kept.specs.KeptTurns.{IsOfCalls, IsRestored, TurnIsRestored, TurnStaysOfCalls};
 ghost use Rattle.doc_server_network.specs.Crashes.{CrashesLeave, OfBoth, Restores, RestoresEither, StaleIsBehind};
@@ -25,6 +26,7 @@ use doc_server_kept::laws::{a_turn_is_restored, a_turn_leaves_a_site_of_calls};
 use doc_server_listen::edit_lines::{EditLines, step_and_keep};
 use doc_server_settling::fault::TurnFault;
 use doc_server_settling::reserve::{RESERVE, has_room_to_remove, keep_reserve};
+use doc_store::readers::Readers;
 
 /// A hub, the journal of its edits, where there is one, and the lines of those that aren't in it yet. No step can be made past these
 /// lines.
@@ -143,6 +145,21 @@ impl<D: Device, R: Renderer + Drop> SavedHub<D, R> {
             → IsReady D.seen D.may_leave D.failed D.stale self.new }
     {
         self.hub.disconnect(id)
+    }
+
+    /// Sets the readers, all at once. It takes no memory, and isn't refused. They are the configuration's, so the journal says nothing of them.
+    pub fn set_readers(&mut self, readers: Readers)
+        ensures world { Happens (R.page self.old.hub.0) self.old.hub.1
+            (events.Reader (reader_edits.All readers)) self.new.hub.1 (Ok tt) }
+        ensures given { self.new.hub.1.given ≡ self.old.hub.1.given }
+        ensures same { R.page self.new.hub.0 ≡ R.page self.old.hub.0 }
+        ensures saved { StaysSaved D.seen D.may_leave D.failed D.stale self.old self.new }
+        ensures journal { self.new.journal ≡ self.old.journal }
+        ensures unsaved { self.new.unsaved ≡ self.old.unsaved }
+        ensures ready { IsReady D.seen D.may_leave D.failed D.stale self.old
+            → IsReady D.seen D.may_leave D.failed D.stale self.new }
+    {
+        self.hub.set_readers(readers);
     }
 
     /// The bytes of a connection that no reply has answered yet, so that a server can tell what its next step costs.

@@ -8,6 +8,8 @@ pub enum Told {
     Connection { id: u64, is_gone: bool },
     /// A peer may be waiting to be accepted.
     Door,
+    /// Something has come on standard input, which can be read once without waiting.
+    Input,
     /// Standard input has ended.
     InputEnds,
 }

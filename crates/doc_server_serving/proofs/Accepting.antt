@@ -3,13 +3,14 @@ use Rattle.std.proofs.Common.{◌≡◌, ◌==◌, ◌<◌, ◌+◌, ℕ, List, 
 use Rattle.std.specs.Prelude.{Option, Some, None, Result, Ok, Err, nat_le, nat_lt}
 use Rattle.std.specs.FinMap as map
 use Rattle.std.proofs.lemmas.Bool.{eqb-true}
+use Rattle.std.proofs.lemmas.List.Elements.{All-nil}
 use Rattle.doc_hub_answers.specs.Replies.{Renders}
 use Rattle.doc_hub_events.specs.Events.{Said, disconnect_on, outcome_of}
 use Rattle.doc_hub_events.specs.declared.event.ConnId.{ConnId}
 use Rattle.doc_hub_events.specs.declared.event.Event.{Event}
 use Rattle.doc_hub_events.specs.declared.event.Event.TheVariants as events
 use Rattle.doc_hub_events.specs.declared.refusal.ConnectError.{ConnectError}
-use Rattle.doc_hub.specs.Runs.{Happened, Happens, sent_by, sent_on}
+use Rattle.doc_hub.specs.Runs.{Happened, Happens, nothing, sent_by, sent_on}
 use Rattle.doc_hub.specs.RunParts.{pushed_by, pushed_on}
 use Rattle.doc_hub.specs.Worlds.{World, last_id}
 use Rattle.doc_server_network.specs.Networks.{Rests, StaysBut}
@@ -17,7 +18,7 @@ use Rattle.doc_server_journal.specs.declared.journal.Journal.{Journal}
 use Rattle.doc_server_network.specs.Saved.{TakesByRoom}
 use Rattle.doc_server_settling.specs.Reserves.{reserve}
 use Rattle.doc_server_serving.specs.Invariants.{AreFree, GoesOn}
-use Rattle.doc_server_serving.specs.Leading.{IsOfPeers, LeadsQuietly}
+use Rattle.doc_server_serving.specs.Leading.{IsOfPeers, LeadsQuietly, LeadsQuietlyBy}
 use Rattle.doc_server_serving.specs.Wirings.{AreWoken, IsNew, Peer, Table, Wired, WokenAt, new_peer}
 use Rattle.doc_server_serving.proofs.Given.{connected_if}
 use Rattle.doc_server_serving.proofs.Going.{goes_quietly, new_on}
@@ -34,14 +35,26 @@ quiet_none render w v is =
     subst (LeadsQuietly render w) (sym is)
     (record { leads = leads_nowhere render w; pushes = λ k. refl; sends = λ k. refl })
 
-quiet_by : (render : Renders) (w v : World) (event : Event) (said : Said event) → IsOfPeers event → Happens render w event v said
-    → pushed_by event (outcome_of event said) ≡ [] → sent_by (outcome_of event said) ≡ [] → LeadsQuietly render w v
-quiet_by render w v event said own happens pushes sends =
+pub quiet_by_one : (own : Event → Type 0) (render : Renders) (w v : World) (event : Event) (said : Said event) → own event
+    → Happens render w event v said → pushed_by event (outcome_of event said) ≡ [] → sent_by (outcome_of event said) ≡ []
+    → LeadsQuietlyBy own render w v
+quiet_by_one own render w v event said is_own happens pushes sends =
     let h : Happened = record { world = w; event = event; outcome = outcome_of event said } in record {
-      leads = leads_by render w v event said own happens;
+      leads = leads_by own render w v event said is_own happens;
       pushes = λ k. pushes_nothing k h pushes;
       sends = λ k. sends_nothing k h sends;
     }
+
+pub quiet_nowhere : (own : Event → Type 0) (render : Renders) (w : World) → LeadsQuietlyBy own render w w
+quiet_nowhere own render w = record {
+  leads = record { run = []; runs = nothing w; own = All-nil (λ h. own h.event) };
+  pushes = λ k. refl;
+  sends = λ k. refl;
+}
+
+quiet_by : (render : Renders) (w v : World) (event : Event) (said : Said event) → IsOfPeers event → Happens render w event v said
+    → pushed_by event (outcome_of event said) ≡ [] → sent_by (outcome_of event said) ≡ [] → LeadsQuietly render w v
+quiet_by render w v event said own happens pushes sends = quiet_by_one IsOfPeers render w v event said own happens pushes sends
 
 pub quiet_taking : {D : Type 0} (render : Renders) (o : Option (Journal D)) (w v : World) → TakesByRoom render o w v
     → LeadsQuietly render w v

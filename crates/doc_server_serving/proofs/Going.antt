@@ -9,12 +9,13 @@ use Rattle.doc_hub.specs.RunParts.{pushed_on}
 use Rattle.doc_hub.specs.Worlds.{World}
 use Rattle.doc_hub.proofs.RunParts.{pushed_join, pushed_of, sent_join, sent_of}
 use Rattle.doc_server_network.specs.Networks.{Rests, Stays}
-use Rattle.doc_server_serving.specs.Invariants.{AreFree, AreWired, GoesOn, HasServedNobody, IsServed}
-use Rattle.doc_server_serving.specs.Leading.{Leads}
+use Rattle.doc_hub_events.specs.declared.event.Event.{Event}
+use Rattle.doc_server_serving.specs.Invariants.{AreFree, AreWired, GoesOn, GoesOnBy, HasServedNobody, IsServed}
+use Rattle.doc_server_serving.specs.Leading.{IsOfPeers, Leads, LeadsQuietlyBy}
 use Rattle.doc_server_serving.specs.Turns.{Turns}
 use Rattle.doc_server_serving.specs.Wirings.{AreWoken, Gives, IsNew, Peer, SweptAll, SweptAt, Table, Wired, WokenAt, new_peer}
 use Rattle.doc_server_serving.proofs.Given.{given_more}
-use Rattle.doc_server_serving.proofs.Leading.{IsOwn, leads_nowhere, leads_on, of_peers}
+use Rattle.doc_server_serving.proofs.Leading.{IsOwn, leads_nowhere, leads_on, leads_wider, of_peers}
 use Rattle.doc_server_serving.proofs.LeavingSteps.{wired_on}
 use Rattle.doc_server_serving.proofs.TableServing.{IsOfAny}
 use Rattle.doc_server_serving.proofs.Tables.{some_none}
@@ -73,14 +74,20 @@ are_same given c g p q s r t pushes sends are = record {
       (subst (λ x. IsNew (c k) (g k) (p k) x (map.get t k)) (sends k) (are.new k lt));
 }
 
+-- nothing behind it
+behind_none : (front rest : List ℕ) → rest ≡ [] → front ≡ front ++ rest
+behind_none front rest none = sym (ap (λ l. front ++ l) none ∙ append-nil front)
+
 module _ {N R : Type 0} (page : R → Renders) (came gone : N → ℕ → Option (List ℕ)) (wakes is_free : N → ℕ → Type 0) where
   abbrev pub Goes : R × World → R × World → N → N → Table → Table → Type 0
   Goes old new n m t u = GoesOn page came gone wakes is_free old new n m t u
 
   -- one part behind the other
-  abbrev pub goes_join : (old mid new : R × World) (n m o : N) (t u v : Table) → Goes old mid n m t u → Goes mid new m o u v → Goes old new n o t v
-  goes_join old mid new n m o t u v a b = record {
-    leads = leads_on (page old.0) (page mid.0) old.1 mid.1 new.1 a.same a.leads b.leads;
+  abbrev pub goes_on : (own : Event → Type 0) (old mid new : R × World) (n m o : N) (t u v : Table)
+      → GoesOnBy page came gone wakes is_free own old mid n m t u → GoesOnBy page came gone wakes is_free own mid new m o u v
+      → GoesOnBy page came gone wakes is_free own old new n o t v
+  goes_on own old mid new n m o t u v a b = record {
+    leads = leads_on own (page old.0) (page mid.0) old.1 mid.1 new.1 a.same a.leads b.leads;
     same = b.same ∙ a.same;
     wired = λ pushed sent are.
         are_same new.1.given (came o) (gone o) (λ k. (pushed k ++ pushed_on k a.leads.run) ++ pushed_on k b.leads.run)
@@ -93,6 +100,36 @@ module _ {N R : Type 0} (page : R → Renders) (came gone : N → ℕ → Option
         (b.wired (λ k. pushed k ++ pushed_on k a.leads.run) (λ k. sent k ++ sent_on k a.leads.run) (a.wired pushed sent are));
     woken = λ w. b.woken (a.woken w);
     free = λ f. b.free (a.free f);
+  }
+
+  abbrev pub goes_join : (old mid new : R × World) (n m o : N) (t u v : Table) → Goes old mid n m t u → Goes mid new m o u v → Goes old new n o t v
+  goes_join old mid new n m o t u v a b = goes_on IsOfPeers old mid new n m o t u v a b
+
+  -- by some events, and so by more of them
+  abbrev pub goes_wider : (own more : Event → Type 0) (old new : R × World) (n m : N) (t u : Table) → ((e : Event) → own e → more e)
+      → GoesOnBy page came gone wakes is_free own old new n m t u → GoesOnBy page came gone wakes is_free more old new n m t u
+  goes_wider own more old new n m t u wider a = record {
+    leads = leads_wider own more (page old.0) old.1 new.1 wider a.leads;
+    same = a.same;
+    wired = a.wired;
+    woken = a.woken;
+    free = a.free;
+  }
+
+  -- a part that nobody hears or is sent anything by, without a call of the network
+  pub goes_unheard : (own : Event → Type 0) (old new : R × World) (n : N) (t : Table) → page new.0 ≡ page old.0
+      → LeadsQuietlyBy own (page old.0) old.1 new.1 → new.1.given ≡ old.1.given
+      → GoesOnBy page came gone wakes is_free own old new n n t t
+  goes_unheard own old new n t same quiet given = record {
+    leads = quiet.leads;
+    same = same;
+    wired = λ pushed sent are.
+        are_same new.1.given (came n) (gone n) pushed (λ k. pushed k ++ pushed_on k quiet.leads.run) sent
+        (λ k. sent k ++ sent_on k quiet.leads.run) t (λ k. behind_none (pushed k) (pushed_on k quiet.leads.run) (quiet.pushes k))
+        (λ k. behind_none (sent k) (sent_on k quiet.leads.run) (quiet.sends k))
+        (subst (λ g. AreWired g (came n) (gone n) pushed sent t) (sym given) are);
+    woken = λ w. w;
+    free = λ f. subst (λ g. AreFree g (is_free n)) (sym given) f;
   }
 
   module _ (old new : R × World) (n m : N) (t u : Table) (same : page new.0 ≡ page old.0)
@@ -172,9 +209,10 @@ module _ {N R : Type 0} (page : R → Renders) (came gone : N → ℕ → Option
   wired_first c g p new =
       subst (λ (x : Option Peer). Wired c g [] [] x) (sym new.none) (wired_out c g [] [] (Some new_peer) (wired_new c g [] [] p new))
 
-  pub served : (old new : R × World) (n m : N) (t u : Table) → HasServedNobody old.1.given (came n) (gone n) (is_free n) t
-      → (goes : Goes old new n m t u) → IsServed goes.leads.run (came m) (gone m)
-  served old new n m t u first goes = λ k.
+  pub served : (own : Event → Type 0) (old new : R × World) (n m : N) (t u : Table)
+      → HasServedNobody old.1.given (came n) (gone n) (is_free n) t → (goes : GoesOnBy page came gone wakes is_free own old new n m t u)
+      → IsServed goes.leads.run (came m) (gone m)
+  served own old new n m t u first goes = λ k.
       wired_out (came m k) (gone m k) (pushed_on k goes.leads.run) (sent_on k goes.leads.run) (map.get u k)
       ((goes.wired (λ i. []) (λ i. []) (record {
         wired = λ i. wired_first (came n i) (gone n i) (map.get t i) (first.new i);

@@ -16,6 +16,7 @@ pub mod HandingOver
 mod Minding
 mod Modesty
 mod NewsSteps
+mod Readers
 mod ReadSteps
 mod ServingSteps
 mod Sites

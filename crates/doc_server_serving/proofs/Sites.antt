@@ -6,6 +6,7 @@ use Rattle.doc_hub_answers.specs.Replies.{Renders}
 use Rattle.doc_hub_events.specs.Events.{disconnect_on}
 use Rattle.doc_hub_events.specs.declared.event.ConnId.{ConnId}
 use Rattle.doc_hub_events.specs.declared.event.Event.TheVariants as events
+use Rattle.doc_hub_events.specs.declared.event.ReaderEdit.TheVariants as reader_edits
 use Rattle.doc_hub_events.specs.declared.refusal.ConnectError.{ConnectError}
 use Rattle.doc_hub_events.specs.declared.refusal.ConnectError.TheVariants as connect_errors
 use Rattle.doc_hub.specs.Runs.{Happens}
@@ -14,6 +15,7 @@ use Rattle.doc_server_journal.specs.declared.journal.Journal.{Journal}
 use Rattle.doc_server_network.specs.KeptTurns.{IsRestored}
 use Rattle.doc_server_listen.specs.Edits.{Kept}
 use Rattle.doc_server_restore.specs.Restores.{restored, unstamped}
+use Rattle.doc_server_network.specs.Readers.{ReaderError, ReaderTable}
 use Rattle.doc_server_network.specs.Saved.{HasAll, IsAllSaved, IsSavedIn, IsSettled, StaysSaved, TakesByRoom}
 use Rattle.doc_server_network.specs.declared.saved_hub.SavedHub.{SavedHub}
 use Rattle.doc_store.specs.Store.{StoreState}
@@ -57,6 +59,12 @@ disconnects_same render w v id said happens =
 pub takes_same : {D : Type 0} (render : Renders) (o : Option (Journal D)) (w v : World) → TakesByRoom render o w v → IsSameSite w v
 takes_same render None w v is = same_by w v is
 takes_same render (Some journal) w v happens = subst (IsSameSite w) (sym happens) (record { site = refl; media = refl; puts = refl })
+
+-- the readers are others
+pub readers_same : (render : Renders) (w v : World) (readers : ReaderTable)
+    → Happens render w (events.Reader (reader_edits.All readers)) v (Ok tt) → IsSameSite w v
+readers_same render w v readers happens =
+    subst (λ (g : World × Result (Unit {0}) ReaderError). IsSameSite w g.0) happens (record { site = refl; media = refl; puts = refl })
 
 -- ---- what is settled stays so
 

@@ -5,7 +5,9 @@ use Rattle.doc_hub_answers.specs.Replies.{Renders}
 use Rattle.doc_hub.specs.Runs.{Happened, sent_on}
 use Rattle.doc_hub.specs.RunParts.{pushed_on}
 use Rattle.doc_hub.specs.Worlds.{World}
-use Rattle.doc_server_serving.specs.Leading.{Leads}
+use Rattle.doc_hub_events.specs.declared.event.Event.{Event}
+use Rattle.doc_server_network.specs.Readers.{ReaderTable}
+use Rattle.doc_server_serving.specs.Leading.{IsOfPeers, IsOfServer, LeadsBy}
 use Rattle.doc_server_serving.specs.Wirings.{AreWoken, HearsFront, IsFront, IsNew, Table, Wired}
 
 -- the numbers that a hub hasn't given yet have had no connection
@@ -18,15 +20,23 @@ pub record AreWired (given : ℕ) (came gone : ℕ → Option (List ℕ)) (pushe
   pub new : (k : ℕ) → given < k → IsNew (came k) (gone k) (pushed k) (sent k) (map.get peers k)
 
 module _ {N R : Type 0} (page : R → Renders) (came gone : N → ℕ → Option (List ℕ)) (wakes is_free : N → ℕ → Type 0) where
-  -- A run leads from the hub's world before to the one behind. Whatever was pushed and sent before it, the connections stay wired by it; who
-  -- rests is woken still, and numbers that weren't given are free.
-  pub record GoesOn (old new : R × World) (n m : N) (before after : Table) : Type 0 where
-    pub leads : Leads (page old.0) old.1 new.1
+  -- A run of such events leads from the hub's world before to the one behind. Whatever was pushed and sent before it, the connections stay
+  -- wired by it; who rests is woken still, and numbers that weren't given are free.
+  pub record GoesOnBy (own : Event → Type 0) (old new : R × World) (n m : N) (before after : Table) : Type 0 where
+    pub leads : LeadsBy own (page old.0) old.1 new.1
     pub same : page new.0 ≡ page old.0
     pub wired : (pushed sent : ℕ → List ℕ) → AreWired old.1.given (came n) (gone n) pushed sent before
         → AreWired new.1.given (came m) (gone m) (λ k. pushed k ++ pushed_on k leads.run) (λ k. sent k ++ sent_on k leads.run) after
     pub woken : AreWoken (wakes n) before → AreWoken (wakes m) after
     pub free : AreFree old.1.given (is_free n) → AreFree new.1.given (is_free m)
+
+  -- by events of peers
+  abbrev pub GoesOn : R × World → R × World → N → N → Table → Table → Type 0
+  GoesOn old new n m before after = GoesOnBy IsOfPeers old new n m before after
+
+  -- or of readers that were given
+  abbrev pub GoesOnWith : (ReaderTable → Type 0) → R × World → R × World → N → N → Table → Table → Type 0
+  GoesOnWith gave old new n m before after = GoesOnBy (IsOfServer gave) old new n m before after
 
 -- On each connection a front of what the run sent there was handed over, and nothing else; and what it pushed there is a front of what came.
 abbrev pub IsServed : List Happened → (ℕ → Option (List ℕ)) → (ℕ → Option (List ℕ)) → Type 0

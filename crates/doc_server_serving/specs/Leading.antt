@@ -6,6 +6,8 @@ use Rattle.doc_hub.specs.RunParts.{pushed_on}
 use Rattle.doc_hub.specs.Worlds.{World}
 use Rattle.doc_hub_events.specs.declared.event.Event.{Event}
 use Rattle.doc_hub_events.specs.declared.event.Event.TheVariants as events
+use Rattle.doc_hub_events.specs.declared.event.ReaderEdit.TheVariants as reader_edits
+use Rattle.doc_server_network.specs.Readers.{ReaderTable}
 
 -- a connect, a push, a step or a disconnect, or whether puts are taken
 abbrev pub IsOfPeers : Event → Type 0
@@ -14,14 +16,32 @@ IsOfPeers (events.On id call) = ⊤
 IsOfPeers (events.TakePuts takes) = ⊤
 IsOfPeers event = ⊥
 
--- a run of such events leads from one world to the other
-pub record Leads (render : Renders) (w v : World) : Type 0 where
+-- one of these, or readers that were given, all at once
+abbrev pub IsOfServer : (ReaderTable → Type 0) → Event → Type 0
+IsOfServer gave (events.Reader (reader_edits.All readers)) = gave readers
+IsOfServer gave event = IsOfPeers event
+
+-- a run of such events alone leads from one world to the other
+pub record LeadsBy (own : Event → Type 0) (render : Renders) (w v : World) : Type 0 where
   pub run : List Happened
   pub runs : Runs render w run v
-  pub own : All (λ h. IsOfPeers h.event) run
+  pub own : All (λ h. own h.event) run
+
+abbrev pub Leads : Renders → World → World → Type 0
+Leads render w v = LeadsBy IsOfPeers render w v
+
+abbrev pub LeadsWith : (ReaderTable → Type 0) → Renders → World → World → Type 0
+LeadsWith gave render w v = LeadsBy (IsOfServer gave) render w v
 
 -- one that pushes nothing to anybody's connection, and sends nothing there
-pub record LeadsQuietly (render : Renders) (w v : World) : Type 0 where
-  pub leads : Leads render w v
+pub record LeadsQuietlyBy (own : Event → Type 0) (render : Renders) (w v : World) : Type 0 where
+  pub leads : LeadsBy own render w v
   pub pushes : (k : ℕ) → pushed_on k leads.run ≡ []
   pub sends : (k : ℕ) → sent_on k leads.run ≡ []
+
+abbrev pub LeadsQuietly : Renders → World → World → Type 0
+LeadsQuietly render w v = LeadsQuietlyBy IsOfPeers render w v
+
+-- what was given before was given behind it
+abbrev pub StayGiven : (ReaderTable → Type 0) → (ReaderTable → Type 0) → Type 0
+StayGiven old new = (readers : ReaderTable) → old readers → new readers

@@ -13,6 +13,7 @@ pub mod room;
 mod sending;
 pub mod server;
 mod silence;
+pub mod source;
 mod stage;
 mod stranger;
 pub mod taking;

@@ -5,13 +5,13 @@ ghost use Rattle.std.specs.FinMap as map;
 ghost use Rattle.std.specs.List.{list_any};
 ghost use Rattle.doc_hub.specs.Worlds.{World};
 ghost use Rattle.doc_server_network.specs.Crashes.{CrashesLeave, Restores, RestoresEither};
-ghost use Rattle.doc_server_network.specs.Networks.{Recalls, WasAsked, WasWaitedFor, end_of_input};
+ghost use Rattle.doc_server_network.specs.Networks.{Recalls, WasAsked, WasWaitedFor, end_of_input, input_came};
 ghost use Rattle.doc_server_network.specs.Saved.{IsAllSaved, IsReady, IsSaved, IsSettled, StaysSaved};
 ghost use Rattle.doc_server_serving.specs.Crashing.{AreKnown, RestoresFront};
 ghost use Rattle.doc_server_serving.specs.Doors.{is_open};
 ghost use Rattle.doc_server_serving.specs.Hearing.{HeardAt, IsMinded, WaitOn};
-ghost use Rattle.doc_server_serving.specs.Invariants.{AreFree, GoesOn, HasServedNobody, IsServed};
-ghost use Rattle.doc_server_serving.specs.Leading.{Leads, LeadsQuietly};
+ghost use Rattle.doc_server_serving.specs.Invariants.{AreFree, GoesOn, GoesOnWith, HasServedNobody, IsServed};
+ghost use Rattle.doc_server_serving.specs.Leading.{IsOfServer, LeadsQuietly, LeadsQuietlyBy, LeadsWith, StayGiven};
 ghost use Rattle.doc_server_serving.specs.Parts.{takes_part_at, turn_of};
 ghost use Rattle.doc_server_serving.specs.Sharing.{times_among};
 ghost use Rattle.doc_server_serving.specs.Sites.{IsSameSite};
@@ -26,6 +26,7 @@ use crate::limits::Limits;
 use crate::named_file::NamedFile;
 use crate::peers::Peers;
 use crate::room::{growth, keep_room};
+use crate::source::Source;
 use crate::telling::wake_told;
 use crate::turn::turn;
 use doc_page::renderer::Renderer;
@@ -68,6 +69,8 @@ pub struct Server {
     first: u64,
     /// Whether somebody takes part in the next turn of whom the network doesn't tell.
     goes_on: bool,
+    /// Whether something has come on standard input in the turn that ran.
+    hears_input: bool,
     swept: Instant,
     /// When it was looked whether the journal can be found, and for its room.
     looked: Instant,
@@ -98,6 +101,7 @@ impl Server {
             piece: Vec::new(heap),
             first: 0,
             goes_on: false,
+            hears_input: false,
             swept: now,
             looked: now,
         };
@@ -107,19 +111,22 @@ impl Server {
         Ok(server)
     }
 
-    /// Serves until standard input ends, where the network tells of that. The journal gets its room first. Behind 2^64 - 1 turns it ends as
-    /// where the network can't be waited for.
-    pub fn serve<N: Network, D: Device + NamedFile, R: Renderer + Drop, C: Clock>(
+    /// Serves until standard input ends, where the network tells of that, with the readers that the hub has, and behind each turn in which
+    /// something has come there those that the source gives. The journal gets its room first. Behind 2^64 - 1 turns it ends as where
+    /// the network can't be waited for.
+    pub fn serve<N: Network, D: Device + NamedFile, R: Renderer + Drop, C: Clock, S: Source>(
         &mut self,
         rt: &C,
         net: &mut N,
         saved: &mut SavedHub<D, R>,
+        source: &mut S,
     ) -> Result<(), ServeFault>
         requires all { IsAllSaved saved.old }
         requires ready { IsReady D.seen D.may_leave D.failed D.stale saved.old }
         requires new { HasServedNobody saved.old.hub.1.given (N.came net.old) (N.gone net.old)
             (N.is_free net.old) self.old.peers }
-        ensures served { (s : Leads (R.page saved.old.hub.0) saved.old.hub.1 saved.new.hub.1)
+        ensures served { (s : LeadsWith (S.gave source.new) (R.page saved.old.hub.0)
+            saved.old.hub.1 saved.new.hub.1)
             × IsServed s.run (N.came net.new) (N.gone net.new) }
         ensures woken { AreWoken (N.wakes net.new) self.new.peers }
         ensures bound { map.len self.new.peers ≤ self.old.door.most }
@@ -130,7 +137,8 @@ impl Server {
         ensures settled { (config : StoreState)
             → IsSettled D.seen D.may_leave D.failed D.stale config saved.old
             → OnOk result (IsSettled D.seen D.may_leave D.failed D.stale config saved.new) }
-        ensures any_moment { (s : Leads (R.page saved.old.hub.0) saved.old.hub.1 saved.new.hub.1)
+        ensures any_moment { (s : LeadsWith (S.gave source.new) (R.page saved.old.hub.0)
+            saved.old.hub.1 saved.new.hub.1)
             × IsServed s.run (N.came net.new) (N.gone net.new)
             × ((config : StoreState) → AreKnown D.seen
             → IsSettled D.seen D.may_leave D.failed D.stale config saved.old
@@ -140,11 +148,51 @@ impl Server {
     {
         keep_room(self.heap, saved, RESERVE + SPARE)?;
         'turns: for _ in 0..u64::MAX {
-            if self.turn(rt, net, saved)? {
+            if self.go_on(rt, net, saved, source)? {
                 return Ok(());
             }
         }
         Err(ServeFault::Socket)
+    }
+
+    /// One turn, and behind it the readers that the source gives, where something has come on standard input. True: it has ended.
+    fn go_on<N: Network, D: Device + NamedFile, R: Renderer + Drop, C: Clock, S: Source>(
+        &mut self,
+        rt: &C,
+        net: &mut N,
+        saved: &mut SavedHub<D, R>,
+        source: &mut S,
+    ) -> Result<bool, ServeFault>
+        requires all { IsAllSaved saved.old }
+        requires ready { IsReady D.seen D.may_leave D.failed D.stale saved.old }
+        requires free { AreFree saved.old.hub.1.given (N.is_free net.old) }
+        ensures goes { GoesOnWith R.page N.came N.gone N.wakes N.is_free (S.gave source.new)
+            saved.old.hub saved.new.hub net.old net.new self.old.peers self.new.peers }
+        ensures keeps { StayGiven (S.gave source.old) (S.gave source.new) }
+        ensures bound { map.len self.old.peers ≤ self.old.door.most
+            → map.len self.new.peers ≤ self.old.door.most }
+        ensures most { self.new.door.most ≡ self.old.door.most }
+        ensures waits { WasWaitedFor (N.made net.new) }
+        ensures ends { IfOk result (λ has_ended. has_ended ≡ true → N.made net.new end_of_input) }
+        ensures all { OnOk result (IsAllSaved saved.new) }
+        ensures ready { OnOk result (IsReady D.seen D.may_leave D.failed D.stale saved.new) }
+        ensures settled { (config : StoreState)
+            → IsSettled D.seen D.may_leave D.failed D.stale config saved.old
+            → OnOk result (IsSettled D.seen D.may_leave D.failed D.stale config saved.new) }
+        ensures any_moment { (config : StoreState) → AreKnown D.seen
+            → IsSettled D.seen D.may_leave D.failed D.stale config saved.old
+            → CrashesLeave D.seen D.moment D.left_since
+            (RestoresEither config saved.old.hub.1 saved.new.hub.1)
+            saved.old.journal saved.new.journal }
+    {
+        if self.turn(rt, net, saved)? {
+            return Ok(true);
+        }
+        if !self.hears_input {
+            return Ok(false);
+        }
+        take_readers(source, saved);
+        Ok(false)
     }
 
     /// One turn. True: standard input has ended, and nobody is accepted any more.
@@ -167,6 +215,8 @@ impl Server {
             (map.get self.old.peers k) (map.get self.new.peers k))) }
         ensures most { self.new.door.most ≡ self.old.door.most }
         ensures waits { WasWaitedFor (N.made net.new) }
+        ensures hears { IfOk result (λ has_ended. has_ended ≡ false
+            → self.new.hears_input ≡ true → N.made net.new input_came) }
         ensures ends { IfOk result (λ has_ended. has_ended ≡ true → N.made net.new end_of_input) }
         ensures asked { IfOk result (λ has_ended. has_ended ≡ false
             → is_open self.new.door (map.len self.new.peers) ≡ true
@@ -193,6 +243,7 @@ impl Server {
             return Ok(true);
         }
         self.end_turn(net, saved, now, news.is_lost)?;
+        self.hears_input = news.input_came;
         Ok(false)
     }
 
@@ -344,6 +395,29 @@ impl Server {
         self.goes_on = self.goes_on || self.peers.goes_on(self.numbers.as_slice());
         Ok(true)
     }
+}
+
+/// Has the hub go by the readers that the source gives, where it gives any.
+fn take_readers<S: Source, D: Device, R: Renderer + Drop>(
+    source: &mut S,
+    saved: &mut SavedHub<D, R>,
+)
+    ensures quiet { LeadsQuietlyBy (IsOfServer (S.gave source.new)) (R.page saved.old.hub.0)
+        saved.old.hub.1 saved.new.hub.1 }
+    ensures keeps { StayGiven (S.gave source.old) (S.gave source.new) }
+    ensures given { saved.new.hub.1.given ≡ saved.old.hub.1.given }
+    ensures same { R.page saved.new.hub.0 ≡ R.page saved.old.hub.0 }
+    ensures site { IsSameSite saved.old.hub.1 saved.new.hub.1 }
+    ensures saved { StaysSaved D.seen D.may_leave D.failed D.stale saved.old saved.new }
+    ensures ready { IsReady D.seen D.may_leave D.failed D.stale saved.old
+        → IsReady D.seen D.may_leave D.failed D.stale saved.new }
+    ensures journal { saved.new.journal ≡ saved.old.journal }
+    ensures unsaved { saved.new.unsaved ≡ saved.old.unsaved }
+{
+    let Some(readers) = source.hear() else {
+        return;
+    };
+    saved.set_readers(readers);
 }
 
 /// The time; where the clock can't be asked, this one, so that no time has passed.

@@ -17,6 +17,8 @@ pub struct News {
     pub is_knocked: bool,
     /// Whether a peer is gone.
     pub is_lost: bool,
+    /// Whether something has come on standard input.
+    pub input_came: bool,
     /// Whether standard input has ended.
     pub input_has_ended: bool,
     /// How many things it has told. Where they are as many as a `u64` counts, more may be left.
@@ -48,6 +50,7 @@ pub fn wake_told<N: Network>(peers: &mut Peers, net: &mut N) -> News
     let mut news = News {
         is_knocked: false,
         is_lost: false,
+        input_came: false,
         input_has_ended: false,
         count: 0,
     };
@@ -83,6 +86,10 @@ fn wake_one<N: Network>(peers: &mut Peers, net: &mut N, news: &mut News) -> bool
         }
         Some(Told::Door) => {
             news.is_knocked = true;
+            true
+        }
+        Some(Told::Input) => {
+            news.input_came = true;
             true
         }
         Some(Told::InputEnds) => {

@@ -7,8 +7,10 @@ use doc_page_parts::failure::Memory;
 use doc_page_parts::heap::{BTreeMap, Heap, String};
 use doc_server_log_names::answered::Answered;
 use doc_server_log_names::lines::Lines;
+use doc_server_log_names::names::Names;
 use doc_server_network::handed::Handed;
 use doc_server_network::watch::Watch;
+use std::cell::Cell;
 use std::rt::Clock;
 use std::time::Instant;
 
@@ -22,6 +24,8 @@ pub struct AccessLog<'a, P> {
     rt: &'a P,
     heap: Heap,
     form: Lines,
+    /// The names of readers that have come since.
+    names: &'a Cell<Option<Names>>,
     /// By the number of the connection.
     unanswered: BTreeMap<u64, Unanswered>,
     line: String,
@@ -35,11 +39,17 @@ pub struct AccessLog<'a, P> {
 
 impl<'a, P: Clock + Eprint> AccessLog<'a, P> {
     /// A log in which nothing stands.
-    pub fn new(rt: &'a P, heap: Heap, form: Lines) -> AccessLog<'a, P> {
+    pub fn new(
+        rt: &'a P,
+        heap: Heap,
+        form: Lines,
+        names: &'a Cell<Option<Names>>,
+    ) -> AccessLog<'a, P> {
         AccessLog {
             rt,
             heap,
             form,
+            names,
             unanswered: BTreeMap::new(heap),
             line: String::new(heap),
             lines: String::new(heap),
@@ -66,6 +76,16 @@ impl<'a, P: Clock + Eprint> AccessLog<'a, P> {
         Ok(())
     }
 
+    /// Takes the names of other readers, where there are some.
+    fn take_names(&mut self) {
+        let Some(names) = self.names.take() else {
+            return;
+        };
+        if let Lines::Json(askers) = &mut self.form {
+            askers.names = names;
+        }
+    }
+
     /// Prints the lines.
     fn print(&mut self) {
         if self.lines.is_empty() {
@@ -80,6 +100,7 @@ impl<P: Clock + Eprint> Watch for AccessLog<'_, P> {
     fn begin_turn(&mut self) {
         self.began = Instant::now(self.rt).ok();
         self.handed = Stamp::Unread;
+        self.take_names();
     }
 
     fn joined(&mut self, id: u64) {

@@ -17,6 +17,7 @@ use doc_page_parts::list::List;
 use doc_server_config::bad_file::BadFile;
 use doc_server_config::bounds::Bounds;
 use doc_server_config::config::SiteConfig;
+use doc_server_config::document::Document;
 use doc_server_config::folder::Folder;
 use doc_server_config::folder_pages::FolderMedium;
 use doc_server_config::overlap::{first_medium_overlap, first_overlap};
@@ -57,18 +58,18 @@ pub struct Opened {
     names: Names,
 }
 
-/// The site of the configuration of this name, its folders' pages behind its own, and its bounds. Folders are read last; `Twice` has
-/// the first path, in the order of these pages, that a page of a folder and another page have.
+/// The document of the configuration of this name, and its site, its folders' pages behind its own, with its bounds. Folders are read last;
+/// `Twice` has the first path, in the order of these pages, that a page of a folder and another page have.
 pub fn read_bounded<R: AllocGlobal + Clone + Drop + Eprint + Files>(
     rt: &R,
     name: &str,
-) -> Result<Bounded, ListenFault>
-    ensures { IfOk result (λ bounded. HasOwnPaths bounded.site.pages.config) }
+) -> Result<(Document, Bounded), ListenFault>
+    ensures { IfOk result (λ read. HasOwnPaths read.1.site.pages.config) }
 {
     let heap = rt.alloc();
-    let opened = open(rt, heap, name)?;
+    let (document, opened) = open(rt, heap, name)?;
     let bounded = bounded_of(rt, heap, opened)?;
-    Ok(bounded)
+    Ok((document, bounded))
 }
 
 /// The same of a configuration that is read up to its folders.
@@ -109,42 +110,45 @@ pub fn read_all_folders<R: AllocGlobal + Clone + Drop + Eprint + Files>(
     name: &str,
 ) -> Result<FolderRows, ListenFault> {
     let heap = rt.alloc();
-    let Opened {
-        site,
-        bounds,
-        folders,
-        names: _,
-    } = open(rt, heap, name)?;
+    let (
+        _,
+        Opened {
+            site,
+            bounds,
+            folders,
+            names: _,
+        },
+    ) = open(rt, heap, name)?;
     let Site { pages, entities: _ } = site;
     let rows = pages.config.pages.get();
     read_folders(rt, heap, rows, folders.get(), bounds.media_bytes, true)
 }
 
-/// The configuration of this name, with the files that it names.
+/// The document of the configuration of this name, and what it says, with the files that it names.
 fn open<R: AllocGlobal + Eprint + Files>(
     rt: &R,
     heap: Heap,
     name: &str,
-) -> Result<Opened, ListenFault>
-    ensures { IfOk result (λ opened. IsOwn opened.site.pages.config) }
+) -> Result<(Document, Opened), ListenFault>
+    ensures { IfOk result (λ read. IsOwn read.1.site.pages.config) }
 {
     let text = read_file(rt, heap, name)?;
-    let written = written_or_told(rt, heap, name, &text)?;
+    let (document, written) = written_or_told(rt, heap, name, &text)?;
     let opened = opened_of(rt, heap, written)?;
-    Ok(opened)
+    Ok((document, opened))
 }
 
-/// What the text of a configuration says of a server that runs. Where it is refused its faults are printed.
+/// The document that the text of a configuration is, and what it says of a server that runs. Where it is refused its faults are printed.
 fn written_or_told<P: Eprint>(
     rt: &P,
     heap: Heap,
     name: &str,
     text: &str,
-) -> Result<Written, ListenFault>
-    ensures { IfOk result (λ written. IsOwn written.config) }
+) -> Result<(Document, Written), ListenFault>
+    ensures { IfOk result (λ read. IsOwn read.1.config) }
 {
     match written_of(heap, text) {
-        Ok(written) => Ok(written),
+        Ok(read) => Ok(read),
         Err(fault) => {
             tell_faults(rt, heap, name, text);
             Err(fault)
@@ -152,12 +156,13 @@ fn written_or_told<P: Eprint>(
     }
 }
 
-/// What the text of a configuration says of a server that runs.
-fn written_of(heap: Heap, text: &str) -> Result<Written, ListenFault>
-    ensures { IfOk result (λ written. IsOwn written.config) }
+/// The document that the text of a configuration is, and what it says of a server that runs.
+pub fn written_of(heap: Heap, text: &str) -> Result<(Document, Written), ListenFault>
+    ensures { IfOk result (λ read. IsOwn read.1.config) }
 {
     let document = document_of(heap, text)?;
-    written_in(heap, &document)
+    let written = written_in(heap, &document)?;
+    Ok((document, written))
 }
 
 /// A configuration, with the files that it names.

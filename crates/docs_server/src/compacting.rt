@@ -46,14 +46,17 @@ fn pages_of<P: AllocGlobal + Clone + Drop + Eprint + Files>(
     rt: &P,
     config: &str,
 ) -> Result<(Pages, List<Move>), ListenFault> {
-    let Bounded {
-        site,
-        bounds: _,
-        media: _,
-        moves,
-        passed,
-        names: _,
-    } = read_bounded(rt, config)?;
+    let (
+        _,
+        Bounded {
+            site,
+            bounds: _,
+            media: _,
+            moves,
+            passed,
+            names: _,
+        },
+    ) = read_bounded(rt, config)?;
     tell_passed(rt, passed.get());
     let Site { pages, entities: _ } = site;
     Ok((pages, moves))

@@ -12,6 +12,7 @@ use crate::files::{Pages, Site};
 use crate::held::hold;
 use crate::listen_fault::ListenFault;
 use crate::moving::make_moves;
+use crate::reloading::Reloading;
 use crate::status::status_of;
 use crate::system::System;
 use crate::told_folders::tell_passed;
@@ -33,7 +34,10 @@ use doc_server_hosting::host::Host;
 use doc_server_hosting::hosting::host_site;
 use doc_server_hosting::terms::Terms;
 use doc_server_log_names::lines::{Askers, Lines};
+use doc_server_log_names::names::Names;
 use doc_server_serving::limits::Limits;
+use doc_server_serving::source::Source;
+use std::cell::Cell;
 use std::fs::{File, metadata};
 use std::net::Net;
 use std::os::unix::fs::FileTypeExt;
@@ -54,28 +58,29 @@ const INPUT: &str = "/proc/self/fd/0";
 /// Runs `listen` over pages of CommonMark, and answers the status to end with.
 pub fn run_listen<
     L: Ledger,
-    P: AllocGlobal + Clock + Clone + Drop + Eprint + Files<File = File> + Net + Print,
+    P: AllocGlobal + Clock + Clone + Drop + Eprint + Files<File = File> + Input + Net + Print,
 >(rt: &P, blank: Blank, command: &Listen<'_>) -> u8
     requires name { blank.name ≡ L.name }
     requires parts { blank.parts ≡ L.parts }
     requires some { 0 < L.parts }
 {
     match read_bounded(rt, command.config) {
-        Ok(
-            Bounded {
+        Ok((document, bounded)) => {
+            let Bounded {
                 site,
                 bounds,
                 media,
                 moves,
                 passed,
                 names,
-            },
-        ) => {
+            } = bounded;
             tell_passed(rt, passed.get());
+            let new_names = Cell::new(None);
             let Site { pages, entities } = site;
             let login = takes_logins(&pages.config);
             let form = lines_of(command.log, Askers { names, login });
-            let log = log_of(rt, form);
+            let log = log_of(rt, form, &new_names);
+            let mut source = Reloading::new(rt, rt.alloc(), command.config, document, &new_names);
             let renderer: CommonMark<L> = CommonMark::with_front(
                 entities,
                 blank,
@@ -86,7 +91,8 @@ pub fn run_listen<
                 media,
                 moves,
             };
-            status_of(rt, listen_with(rt, renderer, ready, bounds, command, log))
+            let status = listen_with(rt, renderer, ready, bounds, command, log, &mut source);
+            status_of(rt, status)
         }
         Err(fault) => status_of(rt, Err(fault)),
     }
@@ -97,6 +103,7 @@ pub fn run_listen<
 fn listen_with<
     R: Renderer + Drop,
     P: AllocGlobal + Clock + Eprint + Files<File = File> + Net + Print,
+    S: Source,
 >(
     rt: &P,
     renderer: R,
@@ -104,6 +111,7 @@ fn listen_with<
     bounds: Bounds,
     command: &Listen<'_>,
     log: Option<AccessLog<'_, P>>,
+    source: &mut S,
 ) -> Result<u8, ListenFault> {
     let heap = rt.alloc();
     let Ready {
@@ -120,14 +128,15 @@ fn listen_with<
         heap,
         written: command.written,
         address: command.address,
-        ends_with_input: is_pipe(rt),
+        hears_input: is_pipe(rt),
     };
-    let ended = listen_on(rt, heap, &host, hub, &bounds, command.journal, log)?;
+    let ended = listen_on(rt, heap, &host, hub, &bounds, command.journal, log, source)?;
     ended_status(&ended)
 }
 
-/// Serves a hub that has the pages of the configuration, on a host, with the journal and the log that the arguments name, if they do.
-fn listen_on<'a, H: Host, R: Renderer + Drop, P: Clock + Eprint>(
+/// Serves a hub that has the pages of the configuration, on a host, with the journal and the log that the arguments name, if they do, and
+/// with the readers that a source gives.
+fn listen_on<'a, H: Host, R: Renderer + Drop, P: Clock + Eprint, S: Source>(
     rt: &'a P,
     heap: Heap,
     host: &H,
@@ -135,10 +144,12 @@ fn listen_on<'a, H: Host, R: Renderer + Drop, P: Clock + Eprint>(
     bounds: &Bounds,
     journal: Option<&str>,
     log: Option<AccessLog<'a, P>>,
+    source: &mut S,
 ) -> Result<Ended<H::Device, H::Network, R, AccessLog<'a, P>>, HostingFault<H::Fault>>
     ensures hosted { IfOk result (λ ended. IsHosted H.Device.seen H.Device.may_leave
-        H.Device.failed H.Device.stale H.Device.moment H.Device.left_since (R.page hub.0)
-        (H.file host.now) (option_copied journal.entry) hub.1 ended.saved
+        H.Device.failed H.Device.stale H.Device.moment H.Device.left_since
+        (S.gave source.new) (R.page hub.0) (H.file host.now) (option_copied journal.entry)
+        hub.1 ended.saved
         (H.Network.came ended.net) (H.Network.gone ended.net) (ended.served ≡ Ok tt)) }
     ensures woken { IfOk result (λ ended. AreWoken (H.Network.wakes ended.net) ended.server.peers) }
     ensures bound { IfOk result (λ ended. map.len ended.server.peers ≤ bounds.now.connections) }
@@ -152,7 +163,7 @@ fn listen_on<'a, H: Host, R: Renderer + Drop, P: Clock + Eprint>(
             request_seconds: bounds.request_seconds,
         },
     };
-    host_site(rt, heap, host, hub, &terms, log)
+    host_site(rt, heap, host, hub, &terms, log, source)
 }
 
 /// The lines of the log that the arguments ask for, if they do.
@@ -164,11 +175,12 @@ fn lines_of(log: Option<LogForm>, askers: Askers) -> Option<Lines> {
 }
 
 /// A log of such lines.
-fn log_of<P: AllocGlobal + Clock + Eprint>(
-    rt: &P,
+fn log_of<'a, P: AllocGlobal + Clock + Eprint>(
+    rt: &'a P,
     form: Option<Lines>,
-) -> Option<AccessLog<'_, P>> {
-    Some(AccessLog::new(rt, rt.alloc(), form?))
+    names: &'a Cell<Option<Names>>,
+) -> Option<AccessLog<'a, P>> {
+    Some(AccessLog::new(rt, rt.alloc(), form?, names))
 }
 
 /// Whether readers may sign in by a password.

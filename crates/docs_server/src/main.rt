@@ -18,6 +18,8 @@ mod listen_fault;
 mod listening;
 mod moving;
 mod named_device;
+mod reload_fault;
+mod reloading;
 mod serving;
 mod site_store;
 mod sites;

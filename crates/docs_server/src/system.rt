@@ -34,8 +34,8 @@ pub struct System<'a, P> {
     /// The address as it is written, and what that means.
     pub written: &'a str,
     pub address: SocketAddr,
-    /// Whether the end of standard input ends the server.
-    pub ends_with_input: bool,
+    /// Whether standard input is heard: its end ends the server.
+    pub hears_input: bool,
 }
 
 impl<'a, P: Clock + Eprint + Files<File = File> + Net + Print> Host for System<'a, P> {
@@ -70,7 +70,7 @@ impl<'a, P: Clock + Eprint + Files<File = File> + Net + Print> Host for System<'
     }
 
     fn bind(&self, heap: Heap) -> Result<MioNetwork, ListenFault> {
-        match MioNetwork::bind(self.rt, heap, self.address, self.ends_with_input) {
+        match MioNetwork::bind(self.rt, heap, self.address, self.hears_input) {
             Ok(net) => Ok(net),
             Err(_) => Err(ListenFault::Command(Fault::Socket)),
         }

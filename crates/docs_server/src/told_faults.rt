@@ -16,6 +16,15 @@ pub fn tell_faults<P: Eprint>(rt: &P, heap: Heap, name: &str, text: &str) {
     }
 }
 
+/// Prints them as what a reload is refused for.
+pub fn tell_refusal<P: Eprint>(rt: &P, heap: Heap, name: &str, text: &str) {
+    if let Ok(lines) = faults_told(heap, name, text) {
+        for line in lines.as_str().lines() {
+            let _ = eprintln!(rt; "reload refused: {line}");
+        }
+    }
+}
+
 /// The lines of the faults of a configuration in the file of this name.
 #[tactic(auto, using(crate::proofs::LintSteps::none_told, crate::proofs::LintSteps::faults_told))]
 fn faults_told(heap: Heap, name: &str, text: &str) -> Result<String, Memory>

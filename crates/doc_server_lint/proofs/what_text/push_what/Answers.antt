@@ -93,3 +93,13 @@ returns-in-Journal c =
     of_text c.push_named-in-Journal.result (string_bytes c.args.out.now) (string_bytes c.push_named-in-Journal.new.out) c.args.key.now
     (named [] c.get-in-Journal.result.now []) _ _ c.in-Journal.is
     (ap (λ told. named [] told []) (sym c.get-in-Journal.ensures)) c.push_named-in-Journal.ensures
+
+pub returns-in-ClearToken : goal.returns-in-ClearToken
+returns-in-ClearToken c =
+    of_variant c.push-in-ClearToken.result (string_bytes c.args.out.now)
+    (string_bytes c.push-in-ClearToken.new.out) c.args.key.now _ _ c.in-ClearToken.is c.push-in-ClearToken.ensures
+
+pub returns-in-NoName : goal.returns-in-NoName
+returns-in-NoName c =
+    of_variant c.push_named-in-NoName.result (string_bytes c.args.out.now) (string_bytes c.push_named-in-NoName.new.out) c.args.key.now _ _
+    c.in-NoName.is c.push_named-in-NoName.ensures

@@ -31,3 +31,6 @@ returns-in-Some-Door-clause-rouses g c = rouses_nobody c.args.peers.now
 
 pub returns-in-Some-InputEnds-clause-rouses : goal.returns-in-Some-InputEnds-clause-rouses
 returns-in-Some-InputEnds-clause-rouses g c = rouses_nobody c.args.peers.now
+
+pub returns-in-Some-Input-clause-rouses : goal.returns-in-Some-Input-clause-rouses
+returns-in-Some-Input-clause-rouses g c = rouses_nobody c.args.peers.now

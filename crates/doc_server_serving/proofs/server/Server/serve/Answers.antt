@@ -3,12 +3,13 @@ use Rattle.std.specs.FinMap as map
 use Rattle.doc_server_network.specs.Crashes.{Restores}
 use Rattle.doc_server_network.specs.Networks.{WasWaitedFor}
 use Rattle.doc_server_serving.specs.Crashing.{RestoresFront}
+use Rattle.doc_server_serving.specs.Leading.{IsOfServer}
 use Rattle.doc_server_serving.specs.declared.fault.ServeFault.TheVariants as faults
-use Rattle.doc_server_serving.proofs.Accepting.{goes_silently}
 use Rattle.doc_server_serving.proofs.Asking.{any_fault, waited_once}
 use Rattle.doc_server_serving.proofs.Bounds.{nobody}
 use Rattle.doc_server_serving.proofs.Crashing.{at_first, leaves_weaker, turn_behind}
-use Rattle.doc_server_serving.proofs.Going.{goes_join, nobody_rests, served}
+use Rattle.doc_server_serving.proofs.Going.{nobody_rests, served}
+use Rattle.doc_server_serving.proofs.Readers.{begun, goes_further}
 use Rattle.doc_server_serving.proofs.server.Server.serve.Goals as goal
 
 pub turns-init : goal.turns-init
@@ -19,8 +20,8 @@ turns-init g c = record {
   bound = nobody c.args.self.now.peers c.args.self.now.door.most (λ k. (c.requires.new.new k).none);
   most = refl;
   waited = inl refl;
-  goes = goes_silently g.R.Renderer.page g.N.Network.came g.N.Network.gone g.N.Network.wakes g.N.Network.is_free c.args.saved.now.hub
-      c.keep_room.new.saved.hub c.args.net.now c.args.self.now.peers c.keep_room.ensures.same c.keep_room.ensures.quiet;
+  goes = begun g.R.Renderer.page g.N.Network.came g.N.Network.gone g.N.Network.wakes g.N.Network.is_free (g.S.Source.gave c.args.source.now)
+      c.args.saved.now.hub c.keep_room.new.saved.hub c.args.net.now c.args.self.now.peers c.keep_room.ensures.same c.keep_room.ensures.quiet;
   crashes = λ config all is.
       leaves_weaker g.D.Device.seen g.D.Device.moment g.D.Device.left_since (Restores config c.args.saved.now.hub.1)
       (RestoresFront config (g.R.Renderer.page c.args.saved.now.hub.0) c.args.saved.now.hub.1 c.keep_room.ensures.quiet.leads.run)
@@ -29,22 +30,23 @@ turns-init g c = record {
       (c.keep_room.ensures.any_moment config c.args.saved.now.hub.1 is.0);
 }
 
-pub turn-requires-clause-all : goal.turn-requires-clause-all
-turn-requires-clause-all g c = c.turns.invariant.all
+pub go_on-requires-clause-all : goal.go_on-requires-clause-all
+go_on-requires-clause-all g c = c.turns.invariant.all
 
-pub turn-requires-clause-ready : goal.turn-requires-clause-ready
-turn-requires-clause-ready g c = c.turns.invariant.ready
+pub go_on-requires-clause-ready : goal.go_on-requires-clause-ready
+go_on-requires-clause-ready g c = c.turns.invariant.ready
 
-pub turn-requires-clause-free : goal.turn-requires-clause-free
-turn-requires-clause-free g c = c.turns.invariant.goes.free c.requires.new.free
+pub go_on-requires-clause-free : goal.go_on-requires-clause-free
+go_on-requires-clause-free g c = c.turns.invariant.goes.free c.requires.new.free
 
 pub returns-in_err-keep_room-clause-served : goal.returns-in_err-keep_room-clause-served
 returns-in_err-keep_room-clause-served g c =
-    let goes = goes_silently g.R.Renderer.page g.N.Network.came g.N.Network.gone g.N.Network.wakes g.N.Network.is_free
-    c.args.saved.now.hub c.keep_room.new.saved.hub c.args.net.now c.args.self.now.peers c.keep_room.ensures.same
-    c.keep_room.ensures.quiet in (
+    let goes = begun g.R.Renderer.page g.N.Network.came g.N.Network.gone g.N.Network.wakes g.N.Network.is_free
+    (g.S.Source.gave c.args.source.now) c.args.saved.now.hub c.keep_room.new.saved.hub c.args.net.now c.args.self.now.peers
+    c.keep_room.ensures.same c.keep_room.ensures.quiet in (
       goes.leads,
-      served g.R.Renderer.page g.N.Network.came g.N.Network.gone g.N.Network.wakes g.N.Network.is_free c.args.saved.now.hub
+      served g.R.Renderer.page g.N.Network.came g.N.Network.gone g.N.Network.wakes g.N.Network.is_free
+          (IsOfServer (g.S.Source.gave c.args.source.now)) c.args.saved.now.hub
           c.keep_room.new.saved.hub c.args.net.now c.args.net.now c.args.self.now.peers c.args.self.now.peers c.requires.new goes,
     )
 
@@ -53,66 +55,72 @@ returns-in_err-keep_room-clause-woken g c =
     nobody_rests g.R.Renderer.page g.N.Network.came g.N.Network.gone g.N.Network.wakes g.N.Network.is_free c.args.saved.now.hub.1.given
     c.args.net.now c.args.self.now.peers c.requires.new
 
-pub returns-in_err-turn-clause-served : goal.returns-in_err-turn-clause-served
-returns-in_err-turn-clause-served g c =
-    let goes = goes_join g.R.Renderer.page g.N.Network.came g.N.Network.gone g.N.Network.wakes g.N.Network.is_free c.args.saved.now.hub
-    c.turns.saved.hub c.turn.new.saved.hub c.args.net.now c.turns.net c.turn.new.net c.args.self.now.peers c.turns.self.peers
-    c.turn.new.self.peers c.turns.invariant.goes c.turn.ensures.goes in (
+pub returns-in_err-go_on-clause-served : goal.returns-in_err-go_on-clause-served
+returns-in_err-go_on-clause-served g c =
+    let goes = goes_further g.R.Renderer.page g.N.Network.came g.N.Network.gone g.N.Network.wakes g.N.Network.is_free
+    (g.S.Source.gave c.turns.source) (g.S.Source.gave c.go_on.new.source) c.go_on.ensures.keeps c.args.saved.now.hub c.turns.saved.hub
+    c.go_on.new.saved.hub c.args.net.now c.turns.net c.go_on.new.net c.args.self.now.peers c.turns.self.peers c.go_on.new.self.peers
+    c.turns.invariant.goes c.go_on.ensures.goes in (
       goes.leads,
-      served g.R.Renderer.page g.N.Network.came g.N.Network.gone g.N.Network.wakes g.N.Network.is_free c.args.saved.now.hub
-          c.turn.new.saved.hub c.args.net.now c.turn.new.net c.args.self.now.peers c.turn.new.self.peers c.requires.new goes,
+      served g.R.Renderer.page g.N.Network.came g.N.Network.gone g.N.Network.wakes g.N.Network.is_free
+          (IsOfServer (g.S.Source.gave c.go_on.new.source)) c.args.saved.now.hub
+          c.go_on.new.saved.hub c.args.net.now c.go_on.new.net c.args.self.now.peers c.go_on.new.self.peers c.requires.new goes,
     )
 
-pub returns-in_err-turn-clause-woken : goal.returns-in_err-turn-clause-woken
-returns-in_err-turn-clause-woken g c =
-    c.turn.ensures.goes.woken (c.turns.invariant.goes.woken
+pub returns-in_err-go_on-clause-woken : goal.returns-in_err-go_on-clause-woken
+returns-in_err-go_on-clause-woken g c =
+    c.go_on.ensures.goes.woken (c.turns.invariant.goes.woken
     (nobody_rests g.R.Renderer.page g.N.Network.came g.N.Network.gone g.N.Network.wakes g.N.Network.is_free
     c.args.saved.now.hub.1.given c.args.net.now c.args.self.now.peers c.requires.new))
 
 pub returns-then-branch-clause-served : goal.returns-then-branch-clause-served
 returns-then-branch-clause-served g c =
-    let goes = goes_join g.R.Renderer.page g.N.Network.came g.N.Network.gone g.N.Network.wakes g.N.Network.is_free c.args.saved.now.hub
-    c.turns.saved.hub c.turn.new.saved.hub c.args.net.now c.turns.net c.turn.new.net c.args.self.now.peers c.turns.self.peers
-    c.turn.new.self.peers c.turns.invariant.goes c.turn.ensures.goes in (
+    let goes = goes_further g.R.Renderer.page g.N.Network.came g.N.Network.gone g.N.Network.wakes g.N.Network.is_free
+    (g.S.Source.gave c.turns.source) (g.S.Source.gave c.go_on.new.source) c.go_on.ensures.keeps c.args.saved.now.hub c.turns.saved.hub
+    c.go_on.new.saved.hub c.args.net.now c.turns.net c.go_on.new.net c.args.self.now.peers c.turns.self.peers c.go_on.new.self.peers
+    c.turns.invariant.goes c.go_on.ensures.goes in (
       goes.leads,
-      served g.R.Renderer.page g.N.Network.came g.N.Network.gone g.N.Network.wakes g.N.Network.is_free c.args.saved.now.hub
-          c.turn.new.saved.hub c.args.net.now c.turn.new.net c.args.self.now.peers c.turn.new.self.peers c.requires.new goes,
+      served g.R.Renderer.page g.N.Network.came g.N.Network.gone g.N.Network.wakes g.N.Network.is_free
+          (IsOfServer (g.S.Source.gave c.go_on.new.source)) c.args.saved.now.hub
+          c.go_on.new.saved.hub c.args.net.now c.go_on.new.net c.args.self.now.peers c.go_on.new.self.peers c.requires.new goes,
     )
 
 pub returns-then-branch-clause-woken : goal.returns-then-branch-clause-woken
 returns-then-branch-clause-woken g c =
-    c.turn.ensures.goes.woken (c.turns.invariant.goes.woken
+    c.go_on.ensures.goes.woken (c.turns.invariant.goes.woken
     (nobody_rests g.R.Renderer.page g.N.Network.came g.N.Network.gone g.N.Network.wakes g.N.Network.is_free
     c.args.saved.now.hub.1.given c.args.net.now c.args.self.now.peers c.requires.new))
 
 pub turns-preserved : goal.turns-preserved
 turns-preserved g c = record {
-  all = c.in_ok-turn.ensures.all;
-  ready = c.in_ok-turn.ensures.ready;
-  settled = λ config is. c.in_ok-turn.ensures.settled config (c.turns.invariant.settled config is);
-  bound = subst (λ most. map.len c.turn.new.self.peers ≤ most) c.turns.invariant.most
-      (c.turn.ensures.bound (subst (λ most. map.len c.turns.self.peers ≤ most) (sym c.turns.invariant.most) c.turns.invariant.bound));
-  most = c.turn.ensures.most ∙ c.turns.invariant.most;
-  waited = inr c.turn.ensures.waits;
-  goes = goes_join g.R.Renderer.page g.N.Network.came g.N.Network.gone g.N.Network.wakes g.N.Network.is_free c.args.saved.now.hub
-      c.turns.saved.hub c.turn.new.saved.hub c.args.net.now c.turns.net c.turn.new.net c.args.self.now.peers c.turns.self.peers
-      c.turn.new.self.peers c.turns.invariant.goes c.turn.ensures.goes;
+  all = c.in_ok-go_on.ensures.all;
+  ready = c.in_ok-go_on.ensures.ready;
+  settled = λ config is. c.in_ok-go_on.ensures.settled config (c.turns.invariant.settled config is);
+  bound = subst (λ most. map.len c.go_on.new.self.peers ≤ most) c.turns.invariant.most
+      (c.go_on.ensures.bound (subst (λ most. map.len c.turns.self.peers ≤ most) (sym c.turns.invariant.most) c.turns.invariant.bound));
+  most = c.go_on.ensures.most ∙ c.turns.invariant.most;
+  waited = inr c.go_on.ensures.waits;
+  goes = goes_further g.R.Renderer.page g.N.Network.came g.N.Network.gone g.N.Network.wakes g.N.Network.is_free
+      (g.S.Source.gave c.turns.source) (g.S.Source.gave c.go_on.new.source) c.go_on.ensures.keeps c.args.saved.now.hub
+      c.turns.saved.hub c.go_on.new.saved.hub c.args.net.now c.turns.net c.go_on.new.net c.args.self.now.peers c.turns.self.peers
+      c.go_on.new.self.peers c.turns.invariant.goes c.go_on.ensures.goes;
   crashes = λ config all is.
       turn_behind g.D.Device.seen g.D.Device.moment g.D.Device.left_since config c.args.saved.now.hub.1 c.turns.saved.hub.1
-      c.turn.new.saved.hub.1 c.args.saved.now.journal c.turns.saved.journal c.turn.new.saved.journal all
-      (g.R.Renderer.page c.args.saved.now.hub.0) c.turns.invariant.goes.leads.run c.turn.ensures.goes.leads.run
+      c.go_on.new.saved.hub.1 c.args.saved.now.journal c.turns.saved.journal c.go_on.new.saved.journal all
+      (g.R.Renderer.page c.args.saved.now.hub.0) c.turns.invariant.goes.leads.run c.go_on.ensures.goes.leads.run
       c.turns.invariant.goes.leads.runs
-      (goes_join g.R.Renderer.page g.N.Network.came g.N.Network.gone g.N.Network.wakes g.N.Network.is_free c.args.saved.now.hub
-      c.turns.saved.hub c.turn.new.saved.hub c.args.net.now c.turns.net c.turn.new.net c.args.self.now.peers c.turns.self.peers
-      c.turn.new.self.peers c.turns.invariant.goes c.turn.ensures.goes).leads.runs (c.turns.invariant.crashes config all is)
-      (c.turn.ensures.any_moment config all (c.turns.invariant.settled config is));
+      (goes_further g.R.Renderer.page g.N.Network.came g.N.Network.gone g.N.Network.wakes g.N.Network.is_free
+      (g.S.Source.gave c.turns.source) (g.S.Source.gave c.go_on.new.source) c.go_on.ensures.keeps c.args.saved.now.hub
+      c.turns.saved.hub c.go_on.new.saved.hub c.args.net.now c.turns.net c.go_on.new.net c.args.self.now.peers c.turns.self.peers
+      c.go_on.new.self.peers c.turns.invariant.goes c.go_on.ensures.goes).leads.runs (c.turns.invariant.crashes config all is)
+      (c.go_on.ensures.any_moment config all (c.turns.invariant.settled config is));
 }
 
 pub returns-clause-served : goal.returns-clause-served
 returns-clause-served g c = (
   c.turns.invariant.goes.leads,
   served g.R.Renderer.page g.N.Network.came g.N.Network.gone g.N.Network.wakes g.N.Network.is_free
-      c.args.saved.now.hub c.turns.saved.hub c.args.net.now c.turns.net c.args.self.now.peers c.turns.self.peers c.requires.new
+      (IsOfServer (g.S.Source.gave c.turns.source)) c.args.saved.now.hub c.turns.saved.hub c.args.net.now c.turns.net c.args.self.now.peers c.turns.self.peers c.requires.new
       c.turns.invariant.goes,
 )
 
@@ -126,23 +134,24 @@ pub returns-in_err-keep_room-clause-bound : goal.returns-in_err-keep_room-clause
 returns-in_err-keep_room-clause-bound g c =
     nobody c.args.self.now.peers c.args.self.now.door.most (λ k. (c.requires.new.new k).none)
 
-pub returns-in_err-turn-clause-bound : goal.returns-in_err-turn-clause-bound
-returns-in_err-turn-clause-bound g c =
-    subst (λ most. map.len c.turn.new.self.peers ≤ most) c.turns.invariant.most
-    (c.turn.ensures.bound (subst (λ most. map.len c.turns.self.peers ≤ most) (sym c.turns.invariant.most) c.turns.invariant.bound))
+pub returns-in_err-go_on-clause-bound : goal.returns-in_err-go_on-clause-bound
+returns-in_err-go_on-clause-bound g c =
+    subst (λ most. map.len c.go_on.new.self.peers ≤ most) c.turns.invariant.most
+    (c.go_on.ensures.bound (subst (λ most. map.len c.turns.self.peers ≤ most) (sym c.turns.invariant.most) c.turns.invariant.bound))
 
 pub returns-then-branch-clause-bound : goal.returns-then-branch-clause-bound
 returns-then-branch-clause-bound g c =
-    subst (λ most. map.len c.turn.new.self.peers ≤ most) c.turns.invariant.most
-    (c.turn.ensures.bound (subst (λ most. map.len c.turns.self.peers ≤ most) (sym c.turns.invariant.most) c.turns.invariant.bound))
+    subst (λ most. map.len c.go_on.new.self.peers ≤ most) c.turns.invariant.most
+    (c.go_on.ensures.bound (subst (λ most. map.len c.turns.self.peers ≤ most) (sym c.turns.invariant.most) c.turns.invariant.bound))
 
 pub returns-in_err-keep_room-clause-any_moment : goal.returns-in_err-keep_room-clause-any_moment
 returns-in_err-keep_room-clause-any_moment g c =
-    let goes = goes_silently g.R.Renderer.page g.N.Network.came g.N.Network.gone g.N.Network.wakes g.N.Network.is_free c.args.saved.now.hub
-    c.keep_room.new.saved.hub c.args.net.now c.args.self.now.peers c.keep_room.ensures.same
-    c.keep_room.ensures.quiet in (
+    let goes = begun g.R.Renderer.page g.N.Network.came g.N.Network.gone g.N.Network.wakes g.N.Network.is_free
+    (g.S.Source.gave c.args.source.now) c.args.saved.now.hub c.keep_room.new.saved.hub c.args.net.now c.args.self.now.peers
+    c.keep_room.ensures.same c.keep_room.ensures.quiet in (
       goes.leads,
-      served g.R.Renderer.page g.N.Network.came g.N.Network.gone g.N.Network.wakes g.N.Network.is_free c.args.saved.now.hub
+      served g.R.Renderer.page g.N.Network.came g.N.Network.gone g.N.Network.wakes g.N.Network.is_free
+          (IsOfServer (g.S.Source.gave c.args.source.now)) c.args.saved.now.hub
           c.keep_room.new.saved.hub c.args.net.now c.args.net.now c.args.self.now.peers c.args.self.now.peers c.requires.new goes,
       λ config all is.
           leaves_weaker g.D.Device.seen g.D.Device.moment g.D.Device.left_since (Restores config c.args.saved.now.hub.1)
@@ -152,42 +161,48 @@ returns-in_err-keep_room-clause-any_moment g c =
           (c.keep_room.ensures.any_moment config c.args.saved.now.hub.1 is.0),
     )
 
-pub returns-in_err-turn-clause-any_moment : goal.returns-in_err-turn-clause-any_moment
-returns-in_err-turn-clause-any_moment g c =
-    let goes = goes_join g.R.Renderer.page g.N.Network.came g.N.Network.gone g.N.Network.wakes g.N.Network.is_free c.args.saved.now.hub
-    c.turns.saved.hub c.turn.new.saved.hub c.args.net.now c.turns.net c.turn.new.net c.args.self.now.peers c.turns.self.peers
-    c.turn.new.self.peers c.turns.invariant.goes c.turn.ensures.goes in (
+pub returns-in_err-go_on-clause-any_moment : goal.returns-in_err-go_on-clause-any_moment
+returns-in_err-go_on-clause-any_moment g c =
+    let goes = goes_further g.R.Renderer.page g.N.Network.came g.N.Network.gone g.N.Network.wakes g.N.Network.is_free
+    (g.S.Source.gave c.turns.source) (g.S.Source.gave c.go_on.new.source) c.go_on.ensures.keeps c.args.saved.now.hub c.turns.saved.hub
+    c.go_on.new.saved.hub c.args.net.now c.turns.net c.go_on.new.net c.args.self.now.peers c.turns.self.peers c.go_on.new.self.peers
+    c.turns.invariant.goes c.go_on.ensures.goes in (
       goes.leads,
-      served g.R.Renderer.page g.N.Network.came g.N.Network.gone g.N.Network.wakes g.N.Network.is_free c.args.saved.now.hub
-          c.turn.new.saved.hub c.args.net.now c.turn.new.net c.args.self.now.peers c.turn.new.self.peers c.requires.new goes,
+      served g.R.Renderer.page g.N.Network.came g.N.Network.gone g.N.Network.wakes g.N.Network.is_free
+          (IsOfServer (g.S.Source.gave c.go_on.new.source)) c.args.saved.now.hub
+          c.go_on.new.saved.hub c.args.net.now c.go_on.new.net c.args.self.now.peers c.go_on.new.self.peers c.requires.new goes,
       λ config all is.
           turn_behind g.D.Device.seen g.D.Device.moment g.D.Device.left_since config c.args.saved.now.hub.1 c.turns.saved.hub.1
-          c.turn.new.saved.hub.1 c.args.saved.now.journal c.turns.saved.journal c.turn.new.saved.journal all
-          (g.R.Renderer.page c.args.saved.now.hub.0) c.turns.invariant.goes.leads.run c.turn.ensures.goes.leads.run
+          c.go_on.new.saved.hub.1 c.args.saved.now.journal c.turns.saved.journal c.go_on.new.saved.journal all
+          (g.R.Renderer.page c.args.saved.now.hub.0) c.turns.invariant.goes.leads.run c.go_on.ensures.goes.leads.run
           c.turns.invariant.goes.leads.runs
-          (goes_join g.R.Renderer.page g.N.Network.came g.N.Network.gone g.N.Network.wakes g.N.Network.is_free c.args.saved.now.hub
-          c.turns.saved.hub c.turn.new.saved.hub c.args.net.now c.turns.net c.turn.new.net c.args.self.now.peers c.turns.self.peers
-          c.turn.new.self.peers c.turns.invariant.goes c.turn.ensures.goes).leads.runs (c.turns.invariant.crashes config all is)
-          (c.turn.ensures.any_moment config all (c.turns.invariant.settled config is)),
+          (goes_further g.R.Renderer.page g.N.Network.came g.N.Network.gone g.N.Network.wakes g.N.Network.is_free
+          (g.S.Source.gave c.turns.source) (g.S.Source.gave c.go_on.new.source) c.go_on.ensures.keeps c.args.saved.now.hub
+          c.turns.saved.hub c.go_on.new.saved.hub c.args.net.now c.turns.net c.go_on.new.net c.args.self.now.peers c.turns.self.peers
+          c.go_on.new.self.peers c.turns.invariant.goes c.go_on.ensures.goes).leads.runs (c.turns.invariant.crashes config all is)
+          (c.go_on.ensures.any_moment config all (c.turns.invariant.settled config is)),
     )
 
 pub returns-then-branch-clause-any_moment : goal.returns-then-branch-clause-any_moment
 returns-then-branch-clause-any_moment g c =
-    let goes = goes_join g.R.Renderer.page g.N.Network.came g.N.Network.gone g.N.Network.wakes g.N.Network.is_free c.args.saved.now.hub
-    c.turns.saved.hub c.turn.new.saved.hub c.args.net.now c.turns.net c.turn.new.net c.args.self.now.peers c.turns.self.peers
-    c.turn.new.self.peers c.turns.invariant.goes c.turn.ensures.goes in (
+    let goes = goes_further g.R.Renderer.page g.N.Network.came g.N.Network.gone g.N.Network.wakes g.N.Network.is_free
+    (g.S.Source.gave c.turns.source) (g.S.Source.gave c.go_on.new.source) c.go_on.ensures.keeps c.args.saved.now.hub c.turns.saved.hub
+    c.go_on.new.saved.hub c.args.net.now c.turns.net c.go_on.new.net c.args.self.now.peers c.turns.self.peers c.go_on.new.self.peers
+    c.turns.invariant.goes c.go_on.ensures.goes in (
       goes.leads,
-      served g.R.Renderer.page g.N.Network.came g.N.Network.gone g.N.Network.wakes g.N.Network.is_free c.args.saved.now.hub
-          c.turn.new.saved.hub c.args.net.now c.turn.new.net c.args.self.now.peers c.turn.new.self.peers c.requires.new goes,
+      served g.R.Renderer.page g.N.Network.came g.N.Network.gone g.N.Network.wakes g.N.Network.is_free
+          (IsOfServer (g.S.Source.gave c.go_on.new.source)) c.args.saved.now.hub
+          c.go_on.new.saved.hub c.args.net.now c.go_on.new.net c.args.self.now.peers c.go_on.new.self.peers c.requires.new goes,
       λ config all is.
           turn_behind g.D.Device.seen g.D.Device.moment g.D.Device.left_since config c.args.saved.now.hub.1 c.turns.saved.hub.1
-          c.turn.new.saved.hub.1 c.args.saved.now.journal c.turns.saved.journal c.turn.new.saved.journal all
-          (g.R.Renderer.page c.args.saved.now.hub.0) c.turns.invariant.goes.leads.run c.turn.ensures.goes.leads.run
+          c.go_on.new.saved.hub.1 c.args.saved.now.journal c.turns.saved.journal c.go_on.new.saved.journal all
+          (g.R.Renderer.page c.args.saved.now.hub.0) c.turns.invariant.goes.leads.run c.go_on.ensures.goes.leads.run
           c.turns.invariant.goes.leads.runs
-          (goes_join g.R.Renderer.page g.N.Network.came g.N.Network.gone g.N.Network.wakes g.N.Network.is_free c.args.saved.now.hub
-          c.turns.saved.hub c.turn.new.saved.hub c.args.net.now c.turns.net c.turn.new.net c.args.self.now.peers c.turns.self.peers
-          c.turn.new.self.peers c.turns.invariant.goes c.turn.ensures.goes).leads.runs (c.turns.invariant.crashes config all is)
-          (c.turn.ensures.any_moment config all (c.turns.invariant.settled config is)),
+          (goes_further g.R.Renderer.page g.N.Network.came g.N.Network.gone g.N.Network.wakes g.N.Network.is_free
+          (g.S.Source.gave c.turns.source) (g.S.Source.gave c.go_on.new.source) c.go_on.ensures.keeps c.args.saved.now.hub
+          c.turns.saved.hub c.go_on.new.saved.hub c.args.net.now c.turns.net c.go_on.new.net c.args.self.now.peers c.turns.self.peers
+          c.go_on.new.self.peers c.turns.invariant.goes c.go_on.ensures.goes).leads.runs (c.turns.invariant.crashes config all is)
+          (c.go_on.ensures.any_moment config all (c.turns.invariant.settled config is)),
     )
 
 pub returns-clause-any_moment : goal.returns-clause-any_moment
@@ -201,7 +216,7 @@ returns-clause-any_moment g c = (
 pub returns-clause-why : goal.returns-clause-why
 returns-clause-why g c = λ is. waited_once c.turns.counter (g.N.Network.made c.turns.net) (omega (arith, c.turns-test.false)) c.turns.invariant.waited
 
-pub returns-in_err-turn-clause-why : goal.returns-in_err-turn-clause-why
-returns-in_err-turn-clause-why g c =
-    any_fault (λ fault. fault ≡ faults.Socket) (WasWaitedFor (g.N.Network.made c.turn.new.net)) c.from_residual-in_err-turn.result
-    c.turn.ensures.waits
+pub returns-in_err-go_on-clause-why : goal.returns-in_err-go_on-clause-why
+returns-in_err-go_on-clause-why g c =
+    any_fault (λ fault. fault ≡ faults.Socket) (WasWaitedFor (g.N.Network.made c.go_on.new.net)) c.from_residual-in_err-go_on.result
+    c.go_on.ensures.waits

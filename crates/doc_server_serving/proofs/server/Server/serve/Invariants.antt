@@ -6,7 +6,7 @@ use Rattle.doc_server_network.specs.Networks.{WasWaitedFor}
 use Rattle.doc_server_network.specs.Saved.{IsAllSaved, IsReady, IsSettled}
 use Rattle.doc_store.specs.Store.{StoreState}
 use Rattle.doc_server_serving.specs.Crashing.{AreKnown, RestoresFront}
-use Rattle.doc_server_serving.specs.Invariants.{GoesOn}
+use Rattle.doc_server_serving.specs.Invariants.{GoesOnWith}
 use Rattle.doc_server_serving.proofs.server.Server.serve.Given as goal
 
 abbrev pub invariant-turns : goal.invariant-turns
@@ -18,7 +18,8 @@ invariant-turns g l = record {
   bound : map.len l.self.peers ≤ l.fn.self.door.most;
   most : l.self.door.most ≡ l.fn.self.door.most;
   waited : (l.counter ≡ 0) ⊎ WasWaitedFor (g.N.Network.made l.net);
-  goes : GoesOn g.R.Renderer.page g.N.Network.came g.N.Network.gone g.N.Network.wakes g.N.Network.is_free l.fn.saved.hub l.saved.hub
+  goes : GoesOnWith g.R.Renderer.page g.N.Network.came g.N.Network.gone g.N.Network.wakes g.N.Network.is_free
+      (g.S.Source.gave l.source) l.fn.saved.hub l.saved.hub
       l.fn.net l.net l.fn.self.peers l.self.peers;
   crashes : (config : StoreState) → AreKnown g.D.Device.seen
       → IsSettled g.D.Device.seen g.D.Device.may_leave g.D.Device.failed g.D.Device.stale config l.fn.saved

@@ -260,6 +260,10 @@ returns-clause-waits g c =
     (λ k f. c.end_turn.ensures.calls k (c.serve_ready.ensures.calls k (c.wake_told-news.ensures.calls k f)))
     (c.wait.result, c.wait.ensures.call)
 
+pub returns-clause-hears : goal.returns-clause-hears
+returns-clause-hears g c =
+    λ ends hears. c.end_turn.ensures.calls _ (c.serve_ready.ensures.calls _ (c.wake_told-news.ensures.news.came hears))
+
 pub returns-clause-asked : goal.returns-clause-asked
 returns-clause-asked g c =
     λ ends still. asked_below c.args.saved.now.hub.1.given c.serve_ready.new.saved.hub.1.given (g.N.Network.made c.end_turn.new.net)

@@ -1,0 +1,67 @@
+use Rattle.std.proofs.Common.{ℕ}
+use Rattle.doc_server_serving.proofs.Crashing.{ended_behind}
+use Rattle.doc_server_serving.proofs.Readers.{turned, turned_with}
+use Rattle.doc_server_serving.proofs.Sites.{all_saved_too, settled_too}
+use Rattle.doc_server_serving.proofs.server.Server.go_on.Goals as goal
+
+pub turn-requires-clause-all : goal.turn-requires-clause-all
+turn-requires-clause-all g c = c.requires.all
+
+pub turn-requires-clause-ready : goal.turn-requires-clause-ready
+turn-requires-clause-ready g c = c.requires.ready
+
+pub turn-requires-clause-free : goal.turn-requires-clause-free
+turn-requires-clause-free g c = c.requires.free
+
+pub returns-in_err-turn-clause-goes : goal.returns-in_err-turn-clause-goes
+returns-in_err-turn-clause-goes g c =
+    turned g.R.Renderer.page g.N.Network.came g.N.Network.gone g.N.Network.wakes g.N.Network.is_free (g.S.Source.gave c.args.source.now)
+    c.args.saved.now.hub c.turn.new.saved.hub c.args.net.now c.turn.new.net c.args.self.now.peers c.turn.new.self.peers c.turn.ensures.goes
+
+pub returns-in_err-turn-clause-keeps : goal.returns-in_err-turn-clause-keeps
+returns-in_err-turn-clause-keeps g c = λ readers gave. gave
+
+pub returns-then-branch-clause-goes : goal.returns-then-branch-clause-goes
+returns-then-branch-clause-goes g c =
+    turned g.R.Renderer.page g.N.Network.came g.N.Network.gone g.N.Network.wakes g.N.Network.is_free (g.S.Source.gave c.args.source.now)
+    c.args.saved.now.hub c.turn.new.saved.hub c.args.net.now c.turn.new.net c.args.self.now.peers c.turn.new.self.peers c.turn.ensures.goes
+
+pub returns-then-branch-clause-keeps : goal.returns-then-branch-clause-keeps
+returns-then-branch-clause-keeps g c = λ readers gave. gave
+
+pub returns-then-not-hears_input-clause-goes : goal.returns-then-not-hears_input-clause-goes
+returns-then-not-hears_input-clause-goes g c =
+    turned g.R.Renderer.page g.N.Network.came g.N.Network.gone g.N.Network.wakes g.N.Network.is_free (g.S.Source.gave c.args.source.now)
+    c.args.saved.now.hub c.turn.new.saved.hub c.args.net.now c.turn.new.net c.args.self.now.peers c.turn.new.self.peers c.turn.ensures.goes
+
+pub returns-then-not-hears_input-clause-keeps : goal.returns-then-not-hears_input-clause-keeps
+returns-then-not-hears_input-clause-keeps g c = λ readers gave. gave
+
+pub returns-clause-goes : goal.returns-clause-goes
+returns-clause-goes g c =
+    turned_with g.R.Renderer.page g.N.Network.came g.N.Network.gone g.N.Network.wakes g.N.Network.is_free
+    (g.S.Source.gave c.take_readers.new.source) c.args.saved.now.hub c.turn.new.saved.hub c.take_readers.new.saved.hub
+    c.args.net.now c.turn.new.net c.args.self.now.peers c.turn.new.self.peers c.turn.ensures.goes c.take_readers.ensures.same
+    c.take_readers.ensures.quiet c.take_readers.ensures.given
+
+pub returns-clause-all : goal.returns-clause-all
+returns-clause-all g c =
+    all_saved_too g.D.Device.seen g.D.Device.may_leave g.D.Device.failed g.D.Device.stale c.turn.new.saved c.take_readers.new.saved
+    c.take_readers.ensures.journal c.take_readers.ensures.unsaved c.in_ok-turn.ensures.all
+
+pub returns-clause-ready : goal.returns-clause-ready
+returns-clause-ready g c = c.take_readers.ensures.ready c.in_ok-turn.ensures.ready
+
+pub returns-clause-settled : goal.returns-clause-settled
+returns-clause-settled g c =
+    λ config is.
+    settled_too g.D.Device.seen g.D.Device.may_leave g.D.Device.failed g.D.Device.stale config c.turn.new.saved c.take_readers.new.saved
+    c.take_readers.ensures.site c.take_readers.ensures.saved c.take_readers.ensures.journal c.take_readers.ensures.unsaved
+    (c.in_ok-turn.ensures.settled config is)
+
+pub returns-clause-any_moment : goal.returns-clause-any_moment
+returns-clause-any_moment g c =
+    λ config all is.
+    ended_behind g.D.Device.seen g.D.Device.moment g.D.Device.left_since config c.args.saved.now.hub.1 c.turn.new.saved.hub.1
+    c.take_readers.new.saved.hub.1 c.args.saved.now.journal c.turn.new.saved.journal c.take_readers.new.saved.journal
+    c.take_readers.ensures.site c.take_readers.ensures.journal (c.turn.ensures.any_moment config all is)

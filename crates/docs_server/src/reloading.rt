@@ -1,0 +1,163 @@
+//! The readers of a configuration, read anew where a line on standard input asks for that.
+
+ghost use Rattle.std.specs.Prelude.{◌≢◌, codes, string_bytes, IfSome};
+ghost use Rattle.std.specs.Str.{str_bytes};
+
+use crate::bounded::written_of;
+use crate::files::read_file;
+use crate::listen_fault::ListenFault;
+use crate::reload_fault::ReloadFault;
+use crate::told_faults::tell_refusal;
+use doc_page_parts::heap::Heap;
+use doc_page_parts::text::Text;
+use doc_server_config::document::Document;
+use doc_server_log_names::names::Names;
+use doc_server_serving::source::Source;
+use doc_server_streams::input::Input as _;
+use doc_server_streams::read_from::ReadFrom;
+use doc_store::readers::Readers;
+use std::cell::Cell;
+use std::rt::Files;
+use toml::{Table, Value};
+
+/// How many bytes of standard input are read at once.
+const MOST_BYTES: usize = 4_096;
+
+/// The line that asks for the readers of the file.
+const RELOAD: &str = "reload";
+
+/// The key of the readers in a configuration.
+const READERS: &str = "reader";
+
+/// A configuration that is served, and whose readers can be read anew.
+#[derive(Drop)]
+pub struct Reloading<'a, P> {
+    rt: &'a P,
+    heap: Heap,
+    /// The name of its file.
+    name: &'a str,
+    /// What it is as it is served.
+    document: Document,
+    /// Where the log finds the names of new readers.
+    names: &'a Cell<Option<Names>>,
+}
+
+/// What a reload gives.
+#[derive(Drop)]
+enum Reloaded {
+    /// The file says what is served.
+    Same,
+    /// Other readers, and how many.
+    Others(Readers, usize),
+}
+
+impl<'a, P: Eprint + Files + Input> Reloading<'a, P> {
+    /// A configuration that is served, the file of this name.
+    pub fn new(
+        rt: &'a P,
+        heap: Heap,
+        name: &'a str,
+        document: Document,
+        names: &'a Cell<Option<Names>>,
+    ) -> Reloading<'a, P> {
+        Reloading {
+            rt,
+            heap,
+            name,
+            document,
+            names,
+        }
+    }
+
+    /// Whether what has come on standard input asks for a reload. Each other line is told.
+    fn is_asked(&self) -> bool {
+        let mut buf = [0; MOST_BYTES];
+        let count = match ReadFrom::new(self.rt.reader()).read(&mut buf) {
+            Ok(count) => count,
+            Err(_) => 0,
+        };
+        let mut asks = false;
+        for line in buf[..count].split(|byte| *byte == b'\n') {
+            if line == RELOAD.as_bytes() {
+                asks = true;
+            } else if !line.is_empty() {
+                let _ = eprintln!(self.rt; "unknown line");
+            }
+        }
+        asks
+    }
+
+    /// The readers of the file as it is now. Where something else in it has changed they aren't taken.
+    fn reload(&mut self) -> Result<Reloaded, ReloadFault> {
+        let text = read_file(self.rt, self.heap, self.name).map_err(ListenFault::from)?;
+        let (document, written) = match written_of(self.heap, &text) {
+            Ok(read) => read,
+            Err(fault) => {
+                tell_refusal(self.rt, self.heap, self.name, &text);
+                return Err(ReloadFault::Config(fault));
+            }
+        };
+        if let Some(key) = changed_key(&self.document.table, &document.table) {
+            return Err(ReloadFault::Changed(Text::copy_of(self.heap, key)?));
+        }
+        if self.document.table.get(READERS) == document.table.get(READERS) {
+            return Ok(Reloaded::Same);
+        }
+        let count = reader_count(&document.table);
+        self.document = document;
+        self.names.set(Some(written.names));
+        Ok(Reloaded::Others(written.config.readers, count))
+    }
+}
+
+impl<P: Eprint + Files + Input> Source for Reloading<'_, P> {
+    ghost use Rattle.std.specs.Prelude.{⊤};
+
+    ghost gave = { λ _ _. ⊤ };
+
+    fn hear(&mut self) -> Option<Readers> {
+        if !self.is_asked() {
+            return None;
+        }
+        match self.reload() {
+            Ok(Reloaded::Same) => {
+                let _ = eprintln!(self.rt; "reload: nothing has changed");
+                None
+            }
+            Ok(Reloaded::Others(readers, count)) => {
+                let _ = eprintln!(self.rt; "reload: {count} readers");
+                Some(readers)
+            }
+            Err(fault) => {
+                let _ = eprintln!(self.rt; "reload refused: {fault}");
+                None
+            }
+        }
+    }
+}
+
+/// The first key, but that of the readers, that two documents don't have alike.
+fn changed_key<'a>(old: &'a Table, new: &'a Table) -> Option<&'a str> {
+    match key_apart(old, new) {
+        Some(key) => Some(key),
+        None => key_apart(new, old),
+    }
+}
+
+/// The first key of a document, but that of the readers, that another doesn't have so.
+fn key_apart<'a>(document: &'a Table, other: &Table) -> Option<&'a str> {
+    'keys: for (key, value) in document.iter() {
+        if key.as_str() != READERS && other.get(key.as_str()) != Some(value) {
+            return Some(key.as_str());
+        }
+    }
+    None
+}
+
+/// How many readers a document has.
+fn reader_count(document: &Table) -> usize {
+    match document.get(READERS) {
+        Some(Value::Array(rows)) => rows.len(),
+        _ => 0,
+    }
+}
