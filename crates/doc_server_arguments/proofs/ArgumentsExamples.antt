@@ -1,5 +1,5 @@
 -- Lines of words, worked.
-use Rattle.std.specs.Prelude.{◌≡◌, ℕ, List, [], ◌∷◌, ◌++◌, true, length, nat_le, codes, Some, None, Ok, Err, Option, replicate, refl}
+use Rattle.std.specs.Prelude.{◌≡◌, ℕ, List, [], ◌∷◌, ◌++◌, false, true, length, nat_le, codes, Some, None, Ok, Err, Option, replicate, refl}
 use Rattle.std.specs.List.{list_all}
 use Rattle.std.specs.Str.Lines.{lines}
 use Rattle.std.specs.declared.net.socket_addr.SocketAddr.{SocketAddr}

@@ -2,7 +2,7 @@
 use Rattle.std.proofs.Common.{◌≡◌, ℕ, List, [], ◌∷◌, Bool, true, false, Option, Some, None, Ok, Err, refl, ap, ◌∙◌}
 use Rattle.std.specs.Prelude.{codes, Result}
 use Rattle.doc_server_arguments.specs.TokenSteps.{names_behind}
-use Rattle.doc_server_arguments.specs.TokenWords.{Given, given_by}
+use Rattle.doc_server_arguments.specs.TokenWords.{given_by}
 use Rattle.doc_server_arguments.specs.Usage.{Wrong}
 
 pub owner_more : (is_owner : Bool) (groups : Option (List ℕ)) (word : List ℕ) (words : List (List ℕ)) → word ≡ codes "--owner"
