@@ -1,11 +1,9 @@
 -- The line that is read byte by byte.
-use Rattle.std.proofs.Common.{◌≡◌, ◌≢◌, ◌≤◌, ℕ, zero, suc, ◌+◌, List, [], ◌∷◌, ◌++◌, length, take, slice_index, Bool, true, false, not, ◌&&◌, ◌==◌}
+use Rattle.std.proofs.Common.{◌≡◌, ◌≢◌, ◌≤◌, ℕ, zero, suc, List, [], ◌∷◌, ◌++◌, length, take, slice_index, Bool, true, false, not, ◌==◌}
 use Rattle.std.proofs.Common.{arith, ap, refl, sym, ◌∙◌, subst, length-append, append-nil}
 use Rattle.std.specs.Prelude.{Option, None, Some, IfSome, if◌then◌else◌}
 use Rattle.std.specs.List.{list_all}
 use Rattle.std.specs.Io.KnownBytes.{Consumes, IsAtEnd}
-use Rattle.std.proofs.KnownBytes.{Consumes-trans}
-use Rattle.std.proofs.lemmas.List.Folds.{list_all-append}
 use Rattle.doc_page_parts.proofs.Bools.{and_first, and_second}
 use Rattle.doc_server_token.specs.Lines.{line_of}
 

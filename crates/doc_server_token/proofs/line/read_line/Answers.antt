@@ -1,4 +1,4 @@
-use Rattle.std.proofs.Common.{◌≡◌, ◌∷◌, [], ◌∙◌, ap, append-nil, arith, refl, subst, sym, take}
+use Rattle.std.proofs.Common.{◌∷◌, [], ◌∙◌, ap, append-nil, arith, subst, take}
 use Rattle.std.specs.Io.KnownBytes.{Consumes, IsAtEnd}
 use Rattle.std.proofs.KnownBytes.{Consumes-trans}
 use Rattle.doc_server_token.proofs.Reading.{at_end, at_feed, one_byte, too_long}
@@ -24,7 +24,7 @@ returns-in-Ok-clause-line g c =
     let left = g.I.Input.unread c.args.input.now in
     let mid = g.I.Input.unread c.bytes.input in
     let new = g.I.Input.unread c.read.new.self in
-    let byte = one_byte c.read.new.buf c.in-Ok.field-0 (omega (arith, c.read.auto.buf)) c.in-Ok.ensures.bound.1 c.in-Ok.field-0-test in
+    let byte = one_byte c.read.new.buf c.in-Ok.field-0 (omega (arith, c.read.auto.buf)) c.in-Ok.ensures.bound.0 c.in-Ok.field-0-test.1 in
     let feed = subst (Consumes mid new) (byte ∙ ap (λ b. b ∷ []) c.if-piece-eq10.true) c.in-Ok.ensures.bytes.0 in
     at_feed left mid new c.bytes.line.items c.bytes.invariant.read feed c.bytes.invariant.front
 
