@@ -1,5 +1,5 @@
 -- Lines of words, worked.
-use Rattle.std.specs.Prelude.{◌≡◌, ℕ, List, [], ◌∷◌, ◌++◌, true, length, nat_le, codes, Some, None, Ok, Err, Option, replicate, refl}
+use Rattle.std.specs.Prelude.{◌≡◌, ℕ, List, [], ◌∷◌, ◌++◌, false, true, length, nat_le, codes, Some, None, Ok, Err, Option, replicate, refl}
 use Rattle.std.specs.List.{list_all}
 use Rattle.std.specs.Str.Lines.{lines}
 use Rattle.std.specs.declared.net.socket_addr.SocketAddr.{SocketAddr}
@@ -10,9 +10,9 @@ use Rattle.doc_server_arguments.specs.declared.help.TheConstants.{HELP}
 use Rattle.doc_server_arguments.specs.declared.log_form.LogForm.{LogForm}
 use Rattle.doc_server_arguments.specs.declared.log_form.LogForm.TheVariants.{Plain, Json}
 use Rattle.doc_server_arguments.specs.Addresses.{address_of, listen_address_of, v4_of, v6_of}
-use Rattle.doc_server_arguments.specs.Commands.{Asked, command_in, Demo, Render, Examples, Check, Replay, Serve, Listen, Compact, Folders, Lint, Version, Help}
+use Rattle.doc_server_arguments.specs.Commands.{Asked, command_in, Demo, Render, Examples, Check, Replay, Serve, Listen, Compact, Folders, Lint, Token, TokenHash, Version, Help}
 use Rattle.doc_server_arguments.specs.ShownWords.{shown_word}
-use Rattle.doc_server_arguments.specs.Usage.{NoCommand, NoAddress, UnknownOption, StandsTwice, NeedsFile, usage_text}
+use Rattle.doc_server_arguments.specs.Usage.{NoCommand, NoAddress, UnknownOption, StandsTwice, NeedsFile, NeedsGroups, usage_text}
 use Rattle.doc_server_arguments.specs.Versions.{version_lines}
 
 -- ---- addresses
@@ -242,6 +242,50 @@ lint_of_none = refl
 
 lint_without_file : command_in (codes "lint" ∷ codes "site.toml" ∷ codes "--journal" ∷ []) ≡ Err (NeedsFile (codes "--journal"))
 lint_without_file = refl
+
+-- ---- tokens
+
+token : command_in (codes "token" ∷ codes "ann" ∷ []) ≡ Ok (Token (codes "ann") false None)
+token = refl
+
+token_of_an_owner : command_in (codes "token" ∷ codes "ann" ∷ codes "--owner" ∷ []) ≡ Ok (Token (codes "ann") true None)
+token_of_an_owner = refl
+
+token_with_both : command_in (codes "token" ∷ codes "ann" ∷ codes "--owner" ∷ codes "--groups" ∷ codes "ops,staff" ∷ [])
+    ≡ Ok (Token (codes "ann") true (Some (codes "ops,staff")))
+token_with_both = refl
+
+token_the_other_way : command_in (codes "token" ∷ codes "ann" ∷ codes "--groups" ∷ codes "ops,staff" ∷ codes "--owner" ∷ [])
+    ≡ Ok (Token (codes "ann") true (Some (codes "ops,staff")))
+token_the_other_way = refl
+
+-- what stands behind `--groups` is names
+groups_of_that_name : command_in (codes "token" ∷ codes "ann" ∷ codes "--groups" ∷ codes "--owner" ∷ [])
+    ≡ Ok (Token (codes "ann") false (Some (codes "--owner")))
+groups_of_that_name = refl
+
+token_without_groups : command_in (codes "token" ∷ codes "ann" ∷ codes "--owner" ∷ codes "--groups" ∷ []) ≡ Err NeedsGroups
+token_without_groups = refl
+
+groups_twice : command_in (codes "token" ∷ codes "ann" ∷ codes "--groups" ∷ codes "a" ∷ codes "--groups" ∷ [])
+    ≡ Err (StandsTwice (codes "--groups"))
+groups_twice = refl
+
+owner_twice : command_in (codes "token" ∷ codes "ann" ∷ codes "--owner" ∷ codes "--owner" ∷ codes "what" ∷ [])
+    ≡ Err (StandsTwice (codes "--owner"))
+owner_twice = refl
+
+token_and_more : command_in (codes "token" ∷ codes "ann" ∷ codes "what" ∷ codes "--groups" ∷ []) ≡ Err (UnknownOption (codes "what"))
+token_and_more = refl
+
+token_of_none : command_in (codes "token" ∷ []) ≡ Err NoCommand
+token_of_none = refl
+
+token_hash : command_in (codes "token" ∷ codes "--hash" ∷ []) ≡ Ok TokenHash
+token_hash = refl
+
+token_hash_and_more : command_in (codes "token" ∷ codes "--hash" ∷ codes "tok" ∷ []) ≡ Err (UnknownOption (codes "tok"))
+token_hash_and_more = refl
 
 -- ---- what is told
 

@@ -1,6 +1,7 @@
 mod ArgumentsExamples
 mod Digits
 mod Fronts
+mod GivenLaws
 mod OptionLaws
 mod Ports
 mod Reading

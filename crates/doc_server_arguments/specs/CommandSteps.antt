@@ -3,7 +3,7 @@ use Rattle.std.specs.Prelude.{option_copied, Result, Ok, Err}
 use Rattle.doc_server_arguments.specs.declared.command.Command.{Command}
 use Rattle.doc_server_arguments.specs.declared.command.Command.TheVariants as commands
 use Rattle.doc_server_arguments.specs.declared.usage_fault.UsageFault.{UsageFault}
-use Rattle.doc_server_arguments.specs.Commands.{Asked, Demo, Render, Examples, Check, Replay, Serve, Listen, Compact, Folders, Lint, Version, Help}
+use Rattle.doc_server_arguments.specs.Commands.{Asked, Demo, Render, Examples, Check, Replay, Serve, Listen, Compact, Folders, Lint, Token, TokenHash, Version, Help}
 use Rattle.doc_server_arguments.specs.Usage.{Wrong, fault_shown}
 
 abbrev pub command_shown : Command → Asked
@@ -18,6 +18,8 @@ command_shown (commands.Listen listen) =
 command_shown (commands.Compact compact) = Compact compact.config.now compact.journal.now
 command_shown (commands.Folders config) = Folders config.now
 command_shown (commands.Lint lint) = Lint lint.config.now (option_copied lint.journal)
+command_shown (commands.Token token) = Token token.name.now token.is_owner (option_copied token.groups)
+command_shown commands.TokenHash = TokenHash
 command_shown commands.Version = Version
 command_shown commands.Help = Help
 

@@ -1,12 +1,13 @@
 -- What a line of words asks for: the arguments behind the name of the program.
-use Rattle.std.specs.Prelude.{ℕ, List, [], ◌∷◌, bytes_eq, codes, Option, Some, None, Result, Ok, Err, if◌then◌else◌}
+use Rattle.std.specs.Prelude.{ℕ, List, [], ◌∷◌, Bool, bytes_eq, codes, Option, Some, None, Result, Ok, Err, if◌then◌else◌}
 use Rattle.std.specs.declared.net.socket_addr.SocketAddr.{SocketAddr}
 use Rattle.doc_server_arguments.specs.declared.log_form.LogForm.{LogForm}
 use Rattle.doc_server_arguments.specs.declared.options.Known.TheVariants as known
 use Rattle.doc_server_arguments.specs.Addresses.{address_of, listen_address_of}
 use Rattle.doc_server_arguments.specs.Numbers.{count_of}
 use Rattle.doc_server_arguments.specs.Options.{Said, options_in}
-use Rattle.doc_server_arguments.specs.Usage.{Wrong, NoCommand, NoAddress}
+use Rattle.doc_server_arguments.specs.TokenWords.{Given, given_in}
+use Rattle.doc_server_arguments.specs.Usage.{Wrong, NoCommand, NoAddress, UnknownOption}
 
 -- what a line may ask for. An address stands as it is written, and as it is read
 pub data Asked : Type 0 where
@@ -20,6 +21,8 @@ pub data Asked : Type 0 where
   Compact : (config journal : List ℕ) → Asked
   Folders : (config : List ℕ) → Asked
   Lint : (config : List ℕ) (journal : Option (List ℕ)) → Asked
+  Token : (name : List ℕ) (is_owner : Bool) (groups : Option (List ℕ)) → Asked
+  TokenHash : Asked
   Version : Asked
   Help : Asked
 
@@ -100,6 +103,21 @@ abbrev pub lint_in : List (List ℕ) → Result Asked Wrong
 lint_in (config ∷ options) = lint_saying config (journal_said (options_in known.Journal options))
 lint_in words = Err NoCommand
 
+-- `token --hash`
+abbrev pub hash_in : List (List ℕ) → Result Asked Wrong
+hash_in [] = Ok TokenHash
+hash_in (word ∷ words) = Err (UnknownOption word)
+
+-- a command `token` of which the options are read
+abbrev pub token_saying : List ℕ → Result Given Wrong → Result Asked Wrong
+token_saying name (Ok given) = Ok (Token name given.is_owner given.groups)
+token_saying name (Err wrong) = Err wrong
+
+-- `token NAME [--owner] [--groups NAMES]`, and `token --hash`
+abbrev pub token_in : List (List ℕ) → Result Asked Wrong
+token_in [] = Err NoCommand
+token_in (name ∷ options) = if bytes_eq name (codes "--hash") then hash_in options else token_saying name (given_in options)
+
 -- what the words behind the name of a command ask for
 abbrev pub asked_by : List ℕ → List (List ℕ) → Result Asked Wrong
 asked_by name words =
@@ -113,8 +131,9 @@ asked_by name words =
     else (if bytes_eq name (codes "compact") then compact_in words
     else (if bytes_eq name (codes "folders") then folders_in words
     else (if bytes_eq name (codes "lint") then lint_in words
+    else (if bytes_eq name (codes "token") then token_in words
     else (if bytes_eq name (codes "--version") then alone Version words
-    else (if bytes_eq name (codes "--help") then alone Help words else Err NoCommand)))))))))))
+    else (if bytes_eq name (codes "--help") then alone Help words else Err NoCommand))))))))))))
 
 -- what a line asks for, or what is wrong with it: the first fault by the order of its words
 abbrev pub command_in : List (List ℕ) → Result Asked Wrong

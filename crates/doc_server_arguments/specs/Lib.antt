@@ -6,5 +6,7 @@ pub mod OptionSteps
 pub mod Options
 pub mod ShownWords
 pub mod Texts
+pub mod TokenSteps
+pub mod TokenWords
 pub mod Usage
 pub mod Versions

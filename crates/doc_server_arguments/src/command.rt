@@ -18,6 +18,9 @@ pub enum Command<'a> {
     /// The folders of the configuration of this name.
     Folders(&'a str),
     Lint(Lint<'a>),
+    Token(Token<'a>),
+    /// The digest of the token on standard input.
+    TokenHash,
     /// What the program is, and which journals it reads.
     Version,
     /// The commands, a line each.
@@ -83,4 +86,14 @@ pub struct Lint<'a> {
     pub config: &'a str,
     /// The file of the journal, where there is one.
     pub journal: Option<&'a str>,
+}
+
+/// A token for a new reader.
+#[derive(Drop)]
+pub struct Token<'a> {
+    /// The reader's name, as it is written. It may be none.
+    pub name: &'a str,
+    pub is_owner: bool,
+    /// The names of the reader's groups, as they are written.
+    pub groups: Option<&'a str>,
 }

@@ -2,14 +2,15 @@
 
 ghost use Rattle.std.specs.Prelude.{◌≡◌};
 ghost use Rattle.doc_server_arguments.specs.Commands.{alone, check_in, command_in, examples_in, replay_in};
-ghost use Rattle.doc_server_arguments.specs.Commands.{compact_in, folders_in, lint_in, listen_in, serve_in};
+ghost use Rattle.doc_server_arguments.specs.Commands.{compact_in, folders_in, hash_in, lint_in, listen_in, serve_in, token_in};
 ghost use Rattle.doc_server_arguments.specs.CommandSteps.{command_shown, shown_command};
 ghost use Rattle.doc_server_arguments.specs.Texts.{texts};
 
 use crate::address::{address_of, listen_address_of};
-use crate::command::{Check, Command, Compact, Lint, Listen, Replay, Serve};
+use crate::command::{Check, Command, Compact, Lint, Listen, Replay, Serve, Token};
 use crate::number::count_of;
 use crate::options::{Known, options_of};
+use crate::token_options::given_of;
 use crate::usage_fault::UsageFault;
 use doc_page_parts::heap::String;
 
@@ -31,6 +32,7 @@ pub fn command_of(words: &[String]) -> Result<Command<'_>, UsageFault<'_>>
         "compact" => compact_of(rest),
         "folders" => folders_of(rest),
         "lint" => lint_of(rest),
+        "token" => token_of(rest),
         "--version" => alone(Command::Version, rest),
         "--help" => alone(Command::Help, rest),
         _ => Err(UsageFault::Command),
@@ -164,4 +166,32 @@ fn lint_of(words: &[String]) -> Result<Command<'_>, UsageFault<'_>>
         config: config.as_str(),
         journal: options.journal,
     }))
+}
+
+/// `token NAME [--owner] [--groups NAMES]`, and `token --hash`
+fn token_of(words: &[String]) -> Result<Command<'_>, UsageFault<'_>>
+    ensures { shown_command result ≡ token_in (texts words.now) }
+{
+    let Some((name, options)) = words.split_first() else {
+        return Err(UsageFault::Command);
+    };
+    if name.as_str() == "--hash" {
+        return hash_of(options);
+    }
+    let given = given_of(options)?;
+    Ok(Command::Token(Token {
+        name: name.as_str(),
+        is_owner: given.is_owner,
+        groups: given.groups,
+    }))
+}
+
+/// What stands behind `token --hash`: nothing.
+fn hash_of(words: &[String]) -> Result<Command<'_>, UsageFault<'_>>
+    ensures { shown_command result ≡ hash_in (texts words.now) }
+{
+    match words.first() {
+        None => Ok(Command::TokenHash),
+        Some(word) => Err(UsageFault::UnknownOption(word.as_str())),
+    }
 }

@@ -7,6 +7,8 @@ listen CONFIG ADDR [--journal FILE] [--log]  serves the site to all who come
 lint CONFIG [--journal FILE]                 tells what is wrong with the configuration, a line each
 folders CONFIG                               tells which files of CONFIG's folders are bad
 compact CONFIG --journal FILE                writes the journal anew, of the site its edits lead to
+token NAME [--owner] [--groups a,b]          prints a row for a new reader, and the reader's token
+token --hash                                 prints token_sha256 of the token on standard input
 check CONFIG TOKEN                           prints the broken links that the token's reader sees
 replay CONFIG                                lets the events of a script happen on the site
 serve CONFIG ADDR COUNT TURNS                serves COUNT connections in TURNS passes at most

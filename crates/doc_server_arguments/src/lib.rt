@@ -10,5 +10,6 @@ pub mod log_form;
 mod number;
 mod options;
 mod shown_word;
+mod token_options;
 pub mod usage_fault;
 pub mod version;

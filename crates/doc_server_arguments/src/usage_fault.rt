@@ -15,6 +15,8 @@ pub enum UsageFault<'a> {
     UnknownOption(&'a str),
     /// No file stands behind this option.
     NeedsFile(&'a str),
+    /// No names of groups stand behind `--groups`.
+    NeedsGroups,
     /// This option stands before already.
     StandsTwice(&'a str),
 }
@@ -39,6 +41,9 @@ impl fmt::Display for UsageFault<'_> {
             UsageFault::NeedsFile(word) => {
                 let word = ShownWord::new(word);
                 write!(f, "{word} needs a file\ndocs_server: usage")
+            }
+            UsageFault::NeedsGroups => {
+                f.write_str("--groups needs names of groups: a,b\ndocs_server: usage")
             }
             UsageFault::StandsTwice(word) => {
                 let word = ShownWord::new(word);

@@ -27,6 +27,7 @@ mod stamp;
 mod status;
 mod system;
 mod system_place;
+mod token;
 mod told_faults;
 mod told_folders;
 mod torn;
@@ -41,6 +42,7 @@ use crate::listening::run_listen;
 use crate::serving::run_serve;
 use crate::sites::{run_check, run_replay};
 use crate::status::status_of;
+use crate::token::{run_token, run_token_hash};
 use crate::told_folders::run_folders;
 use doc_server_arguments::command::Command;
 use doc_server_arguments::command_line::command_of;
@@ -52,6 +54,7 @@ use std::fs::File;
 use std::marker::Brand;
 use std::net::{Net, TcpListener, TcpStream};
 use std::process::ExitCode;
+use std::random::RandomSource;
 use std::rt::{Clock, Env, Files};
 use std::sync::ledger::Blank;
 
@@ -71,7 +74,8 @@ where
         + Files<File = File>
         + Input
         + Net<Listener = TcpListener, Stream = TcpStream>
-        + Print,
+        + Print
+        + RandomSource,
 {
     let words = match words_of(rt, rt.alloc()) {
         Ok(words) => words,
@@ -94,7 +98,8 @@ where
         + Files<File = File>
         + Input
         + Net<Listener = TcpListener, Stream = TcpStream>
-        + Print,
+        + Print
+        + RandomSource,
 {
     match command {
         Command::Demo => run_demo::<Brand, R>(rt, Blank::new(1)),
@@ -107,6 +112,8 @@ where
         Command::Compact(compact) => Ok(run_compact(rt, &compact)),
         Command::Folders(config) => Ok(run_folders(rt, config)),
         Command::Lint(lint) => Ok(run_lint(rt, &lint)),
+        Command::Token(token) => Ok(run_token(rt, &token)),
+        Command::TokenHash => Ok(run_token_hash(rt)),
         Command::Version => told(rt, &VersionLines),
         Command::Help => told(rt, &HELP),
     }
