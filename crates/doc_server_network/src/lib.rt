@@ -14,7 +14,7 @@ pub mod mio_network;
 pub mod net_fault;
 pub mod network;
 pub mod permit;
-mod retrying;
+pub mod retrying;
 pub mod saved_hub;
 pub mod script;
 pub mod told;

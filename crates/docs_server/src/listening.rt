@@ -11,11 +11,13 @@ use crate::ended::ended_status;
 use crate::files::{Pages, Site};
 use crate::held::hold;
 use crate::listen_fault::ListenFault;
+use crate::monitors::Monitors;
 use crate::moving::make_moves;
 use crate::reloading::Reloading;
 use crate::status::status_of;
 use crate::system::System;
 use crate::told_folders::tell_passed;
+use crate::watching::Watching;
 use doc_html::CommonMark;
 use doc_hub::hub::Hub;
 use doc_media::media::Media;
@@ -35,11 +37,13 @@ use doc_server_hosting::hosting::host_site;
 use doc_server_hosting::terms::Terms;
 use doc_server_log_names::lines::{Askers, Lines};
 use doc_server_log_names::names::Names;
+use doc_server_network::watch::Watch;
 use doc_server_serving::limits::Limits;
 use doc_server_serving::source::Source;
+use doc_server_streams::fault::Fault;
 use std::cell::Cell;
 use std::fs::{File, metadata};
-use std::net::Net;
+use std::net::{Net, SocketAddr};
 use std::os::unix::fs::FileTypeExt;
 use std::rt::{Clock, Files};
 use std::sync::ledger::{Blank, Ledger};
@@ -130,22 +134,32 @@ fn listen_with<
         address: command.address,
         hears_input: is_pipe(rt),
     };
-    let ended = listen_on(rt, heap, &host, hub, &bounds, command.journal, log, source)?;
+    let watch = Watching::of(rt, log, monitors_of(rt, command.status)?);
+    let ended = listen_on(
+        rt,
+        heap,
+        &host,
+        hub,
+        &bounds,
+        command.journal,
+        watch,
+        source,
+    )?;
     ended_status(&ended)
 }
 
-/// Serves a hub that has the pages of the configuration, on a host, with the journal and the log that the arguments name, if they do, and
-/// with the readers that a source gives.
-fn listen_on<'a, H: Host, R: Renderer + Drop, P: Clock + Eprint, S: Source>(
-    rt: &'a P,
+/// Serves a hub that has the pages of the configuration, on a host, with the journal that the arguments name, if they do, and with the
+/// readers that a source gives. Somebody may watch.
+fn listen_on<H: Host, R: Renderer + Drop, C: Clock, W: Watch + Drop, S: Source>(
+    rt: &C,
     heap: Heap,
     host: &H,
     hub: Hub<R>,
     bounds: &Bounds,
     journal: Option<&str>,
-    log: Option<AccessLog<'a, P>>,
+    watch: Option<W>,
     source: &mut S,
-) -> Result<Ended<H::Device, H::Network, R, AccessLog<'a, P>>, HostingFault<H::Fault>>
+) -> Result<Ended<H::Device, H::Network, R, W>, HostingFault<H::Fault>>
     ensures hosted { IfOk result (λ ended. IsHosted H.Device.seen H.Device.may_leave
         H.Device.failed H.Device.stale H.Device.moment H.Device.left_since
         (S.gave source.new) (R.page hub.0) (H.file host.now) (option_copied journal.entry)
@@ -163,7 +177,21 @@ fn listen_on<'a, H: Host, R: Renderer + Drop, P: Clock + Eprint, S: Source>(
             request_seconds: bounds.request_seconds,
         },
     };
-    host_site(rt, heap, host, hub, &terms, log, source)
+    host_site(rt, heap, host, hub, &terms, watch, source)
+}
+
+/// The door for monitors, where the arguments ask for one.
+fn monitors_of<P: AllocGlobal + Net>(
+    rt: &P,
+    address: Option<SocketAddr>,
+) -> Result<Option<Monitors>, ListenFault> {
+    let Some(address) = address else {
+        return Ok(None);
+    };
+    match Monitors::bind(rt, rt.alloc(), address) {
+        Ok(monitors) => Ok(Some(monitors)),
+        Err(_) => Err(ListenFault::Command(Fault::Socket)),
+    }
 }
 
 /// The lines of the log that the arguments ask for, if they do.

@@ -16,6 +16,8 @@ mod linted_files;
 mod linted_journal;
 mod listen_fault;
 mod listening;
+mod monitor;
+mod monitors;
 mod moving;
 mod named_device;
 mod reload_fault;
@@ -32,6 +34,7 @@ mod told_faults;
 mod told_folders;
 mod torn;
 mod unanswered;
+mod watching;
 mod written;
 
 use crate::arguments::words_of;
