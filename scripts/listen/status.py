@@ -1,0 +1,148 @@
+"""The door for monitors beside `listen`: health, counters as Prometheus reads them, and what isn't there. What it counts is what clients
+were answered; no path, name, group or token stands in it; who comes by it and says nothing holds up nobody.
+
+    python3 scripts/listen/status.py PROGRAM
+
+Builds nothing. Needs python3. Some seconds.
+"""
+import os, socket, sys, time
+sys.path.insert(1, os.path.dirname(__file__) + "/../lib")
+from scene import HOST, OWNER, Client, Refused, Scene, free_port, put, request, until
+import prometheus
+
+scene = Scene(seconds=200)
+PAGE = '[[page]]\npath = "secret-plan.md"\ngroups = ["inner-circle"]\ntext = "A plan"\n'
+LARGE = '[[page]]\npath = "large.md"\ntext = "' + "word " * 40_000 + '"\n'
+
+
+def ask(port, data, seconds=10):
+    """What comes back for these bytes, until the end."""
+    with socket.create_connection((HOST, port), timeout=seconds) as peer:
+        peer.sendall(data)
+        found = b""
+        while got := peer.recv(65_536):
+            found += got
+        return found
+
+
+def get(port, target, method="GET"):
+    """The reply to a request: its code, its head and its body."""
+    head, _, body = ask(port, f"{method} {target} HTTP/1.1\r\nHost: monitor\r\n\r\n".encode()).partition(b"\r\n\r\n")
+    return int(head[9:12]), head.decode(), body
+
+
+class Watched:
+    """A server with a door for monitors."""
+
+    def __init__(self, options=()):
+        put("site.toml", OWNER + PAGE + LARGE)
+        self.door = free_port()
+        self.server = scene.listen("site.toml", options=["--status", f"{HOST}:{self.door}", *options])
+
+    def counted(self):
+        """The samples of the metrics, by name and labels."""
+        code, head, body = get(self.door, "/metrics")
+        scene.check("the metrics' head", code == 200 and "\r\nContent-Type: text/plain; version=0.0.4; charset=utf-8\r\n" in head + "\r\n", head)
+        families = prometheus.parse(body.decode())
+        return {(name, *(value for _, value in labels)): sample for family in families.values()
+                for (name, labels), sample in family.samples.items()}
+
+    def ends(self, name):
+        scene.check(f"{name}: the end", self.server.end() == 0 and self.server.said() == "", self.server.said())
+
+
+def replies():
+    """Each kind of request at the door, and what is none."""
+    site = Watched()
+    for method in ("GET", "HEAD"):
+        code, head, body = get(site.door, "/health", method)
+        wanted = "HTTP/1.1 200 OK\r\nContent-Type: text/plain; charset=utf-8\r\nContent-Length: 3\r\nConnection: close"
+        scene.check(f"{method} /health", (code, head, body) == (200, wanted, b"ok\n" if method == "GET" else b""), (head, body))
+    for target in ("/", "/page/secret-plan.md", "/metrics/", "/health?x", "/Health", "*", "http://a/health", "/record"):
+        scene.check(f"GET {target}", get(site.door, target)[0] == 404)
+    for method in ("POST", "PUT", "DELETE", "get", "OPTIONS"):
+        code, head, _ = get(site.door, "/health", method)
+        scene.check(f"{method} /health", code == 405 and "\r\nAllow: GET, HEAD\r\n" in head, head)
+        scene.check(f"{method} elsewhere", get(site.door, "/none", method)[0] == 404)
+    for name, data in (("no target", b"GET\r\n\r\n"), ("no version", b"GET /health\r\n\r\n"), ("another version", b"GET /health HTTP/2.0\r\n\r\n"),
+                       ("two spaces", b"GET  /health HTTP/1.1\r\n\r\n"), ("no text", b"\x16\x03\x01\x00\n"), ("an empty line", b"\r\n\r\n"),
+                       ("a long line", b"GET /" + b"x" * 1_020 + b" HTTP/1.1\r\n\r\n"), ("no end of it", b"x" * 5_000)):
+        scene.check(name, ask(site.door, data) == b"")
+    most = b"GET /" + b"x" * (1_024 - len(b"GET / HTTP/1.1")) + b" HTTP/1.1\r\n\r\n"
+    scene.check("the longest line", ask(site.door, most).startswith(b"HTTP/1.1 404 "))
+    scene.check("a line feed alone", ask(site.door, b"GET /health HTTP/1.0\n\n").endswith(b"\r\n\r\nok\n"))
+    scene.check("a long head", ask(site.door, b"GET /health HTTP/1.1\r\nX: " + b"y" * 9_000 + b"\r\n\r\n").endswith(b"\r\n\r\nok\n"))
+    cut = socket.create_connection((HOST, site.door), timeout=10)
+    for it in b"GET /health HTTP/1.1\r\n":
+        cut.send(bytes([it]))
+    scene.check("byte by byte", cut.recv(9_000).startswith(b"HTTP/1.1 200 "))
+    cut.close()
+    site.ends("replies")
+
+
+def counters():
+    """What is counted is what clients were answered."""
+    site = Watched(["--log"])
+    before = site.counted()
+    scene.check("nothing yet", set(before.values()) - {before[("docs_turn_seconds_max",)]} == {0}, before)
+    clients = [Client(site.server.port, token) for token in ("tok", "tok", "wrong")]
+    sent = [0, 0]
+    for client, target, method in ((clients[0], "/page/secret-plan.md", "GET"), (clients[0], "/page/none.md", "GET"),
+                                   (clients[1], "/page/large.md", "GET"), (clients[1], "/page/large.md", "HEAD"),
+                                   (clients[2], "/page/secret-plan.md", "GET"), (clients[0], "/page/n.md", "PUT")):
+        code, head, body = client.ask(target, method, b"New" if method == "PUT" else b"")
+        sent[0] += len(head) + 4 + len(body)
+    found = site.counted()
+    classes = [found[("docs_requests_total", it)] for it in ("2xx", "3xx", "4xx", "5xx")]
+    scene.check("by class", classes == [4, 0, 2, 0], classes)
+    scene.check("401", found[("docs_unauthorized_total",)] == 1)
+    scene.check("bytes", found[("docs_bytes_total",)] == sent[0], (found[("docs_bytes_total",)], sent))
+    scene.check("connections", (found[("docs_connections",)], found[("docs_connections_most",)]) == (3, 3), found)
+    clients[0].close()
+    clients[2].close()
+    scene.check("fewer of them", until(lambda: site.counted()[("docs_connections",)] == 1, 5))
+    found = site.counted()
+    scene.check("and as many at once before", found[("docs_connections_most",)] == 3)
+    scene.check("a turn took some time", 0 <= found[("docs_turn_seconds_max",)] < 5)
+    text = get(site.door, "/metrics")[2].decode()
+    for it in ("tok", "secret", "plan", "inner", "wrong", "large"):
+        scene.check(f"{it} stands nowhere", it not in text)
+    scene.check("the end", site.server.end() == 0)
+
+
+def silent():
+    """Three hundred at the door who say nothing: a reader is answered as ever, and the door is free again behind them."""
+    site = Watched()
+    peers = []
+    for _ in range(300):
+        peers.append(socket.create_connection((HOST, site.door), timeout=10))
+    reader = Client(site.server.port, "tok")
+    slowest = 0
+    for _ in range(50):
+        begun = time.monotonic()
+        scene.check("a reader", reader.ask("/page/secret-plan.md")[0] == 200)
+        slowest = max(slowest, time.monotonic() - begun)
+    print(f"slowest reply to a reader beside 300 silent monitors: {slowest * 1_000:.0f} ms")
+    for it in peers:
+        it.close()
+    scene.check("the door is free again", until(lambda: get(site.door, "/health")[0] == 200, 10))
+    site.ends("silent")
+
+
+def taken():
+    """An address that isn't free stops the start."""
+    busy = socket.create_server((HOST, 0))
+    try:
+        put("site.toml", OWNER)
+        scene.listen("site.toml", options=["--status", f"{HOST}:{busy.getsockname()[1]}"]).kill()
+        scene.check("an address that isn't free", False)
+    except Refused as refused:
+        scene.check("an address that isn't free", (refused.status, refused.said) == (2, "docs_server: socket\n"), refused.said)
+
+
+def main():
+    for it in (replies, counters, silent, taken):
+        it()
+
+
+scene.run(main)
