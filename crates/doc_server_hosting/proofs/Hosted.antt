@@ -49,23 +49,23 @@ module _ (config : StoreState) (render page : Renders) (w v : World) (same : pag
 
 module _ {D R : Type 0} (seen : D → Option (List ℕ)) (may_leave : D → List ℕ → Type 0) (failed : D → Bool) (stale : D → ℕ → Type 0)
     (moment : D → ℕ) (left_since : D → ℕ → List ℕ → Type 0) (render page : Renders) (file : List ℕ → Option (List ℕ))
-    (name : Option (List ℕ)) (w : World) (saved ended : SavedHub D R) (gave : ReaderTable → Type 0) (came gone : ℕ → Option (List ℕ))
+    (name : Option (List ℕ)) (w : World) (saved ended : SavedHub D R) (answered : Option ReaderTable → Type 0) (came gone : ℕ → Option (List ℕ))
     (ends_well : Type 0) where
   pub hosted : page ≡ render → IsMadeReady seen may_leave failed stale render file name w saved
-      → (s : LeadsWith gave page saved.hub.1 ended.hub.1) × IsServed s.run came gone
+      → (s : LeadsWith answered page saved.hub.1 ended.hub.1) × IsServed s.run came gone
       × ((config : StoreState) → AreKnown seen → IsSettled seen may_leave failed stale config saved
       → CrashesLeave seen moment left_since (RestoresFront config page saved.hub.1 s.run) saved.journal ended.journal)
       → ((config : StoreState) → IsSettled seen may_leave failed stale config saved → ends_well
       → IsSettled seen may_leave failed stale config ended)
-      → IsHosted seen may_leave failed stale moment left_since gave render file name w ended came gone ends_well
+      → IsHosted seen may_leave failed stale moment left_since answered render file name w ended came gone ends_well
   hosted same made served settled =
-      let both = behind render page made.begin saved.hub.1 ended.hub.1 same made.quiet gave served.0 in record {
+      let both = behind render page made.begin saved.hub.1 ended.hub.1 same made.quiet answered served.0 in record {
         begin = made.begin;
         begins = made.begins;
         journal = saved.journal;
         keeps = made.keeps;
         leads = both;
-        served = served_behind render page made.begin saved.hub.1 ended.hub.1 same made.quiet gave served.0 came gone served.1;
+        served = served_behind render page made.begin saved.hub.1 ended.hub.1 same made.quiet answered served.0 came gone served.1;
         settled = λ well of_calls apart. settled (store_of w) (made.settled of_calls apart) well;
         any_moment = λ known of_calls apart.
             leaves_weaker seen moment left_since (RestoresFront (store_of w) page saved.hub.1 served.0.run)

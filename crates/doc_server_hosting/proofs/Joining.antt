@@ -42,13 +42,13 @@ quietly_taking render w v takes is =
     }
 
 module _ (render page : Renders) (w v u : World) (same : page ≡ render) (q : LeadsQuietly render w v)
-    (gave : ReaderTable → Type 0) (s : LeadsWith gave page v u) where
-  abbrev pub behind : LeadsWith gave render w u
+    (answered : Option ReaderTable → Type 0) (s : LeadsWith answered page v u) where
+  abbrev pub behind : LeadsWith answered render w u
   behind = record {
     run = q.leads.run ++ s.run;
     runs = runs_join render w v u q.leads.run s.run q.leads.runs (subst (λ r. Runs r v s.run u) same s.runs);
-    own = All-append (λ h. IsOfServer gave h.event) q.leads.run s.run
-        (All-weaker IsOwn (λ h. IsOfServer gave h.event) (λ h is. peers_serve gave h.event is) q.leads.run q.leads.own) s.own;
+    own = All-append (λ h. IsOfServer answered h.event) q.leads.run s.run
+        (All-weaker IsOwn (λ h. IsOfServer answered h.event) (λ h is. peers_serve answered h.event is) q.leads.run q.leads.own) s.own;
   }
 
   pub served_behind : (came gone : ℕ → Option (List ℕ)) → IsServed s.run came gone → IsServed behind.run came gone

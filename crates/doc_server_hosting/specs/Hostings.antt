@@ -48,13 +48,13 @@ module _ {D R : Type 0} (seen : D → Option (List ℕ)) (may_leave : D → List
     -- a front of what came. Where the site that peers found was as calls make it, apart from its media, the next start over the same
     -- configuration has the site that stands, if the server ended because it was told to; and whatever a crash at any moment leaves of
     -- the journal gives it the site behind a front of the run.
-    pub record IsHosted (gave : ReaderTable → Type 0) (render : Renders) (file : List ℕ → Option (List ℕ)) (name : Option (List ℕ))
+    pub record IsHosted (answered : Option ReaderTable → Type 0) (render : Renders) (file : List ℕ → Option (List ℕ)) (name : Option (List ℕ))
         (w : World) (saved : SavedHub D R) (came gone : ℕ → Option (List ℕ)) (ends_well : Type 0) : Type 0 where
       pub begin : World
       pub begins : Begins file name w begin
       pub journal : Option (Journal D)
       pub keeps : is_some journal ≡ is_some name
-      pub leads : LeadsWith gave render begin saved.hub.1
+      pub leads : LeadsWith answered render begin saved.hub.1
       pub served : IsServed leads.run came gone
       pub settled : ends_well → IsOfCalls begin.site → IsApart begin.site begin.media
           → IsSettled seen may_leave failed stale (store_of w) saved

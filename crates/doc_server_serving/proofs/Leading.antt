@@ -1,6 +1,6 @@
 -- Worlds that runs lead to.
 use Rattle.std.proofs.Common.{◌≡◌, ℕ, [], ◌∷◌, ◌++◌, Bool, true, false, cond, refl, subst, ◌∙◌, append-nil}
-use Rattle.std.specs.Prelude.{Some}
+use Rattle.std.specs.Prelude.{Option, Some}
 use Rattle.std.proofs.lemmas.List.Elements.{All-nil, All-append, All-cons, All-weaker}
 use Rattle.doc_hub_events.specs.Events.{Said, outcome_of}
 use Rattle.doc_hub_answers.specs.Replies.{Renders}
@@ -12,7 +12,7 @@ use Rattle.doc_hub_events.specs.declared.event.Event.TheVariants as events
 use Rattle.doc_hub.proofs.RunParts.{none_is, pushed_of, runs_join, sent_of}
 use Rattle.doc_hub_events.specs.declared.event.ReaderEdit.TheVariants as reader_edits
 use Rattle.doc_server_network.specs.Readers.{ReaderTable}
-use Rattle.doc_server_serving.specs.Leading.{IsOfPeers, IsOfServer, Leads, LeadsBy, StayGiven}
+use Rattle.doc_server_serving.specs.Leading.{IsOfPeers, IsOfServer, Leads, LeadsBy, StayAnswered}
 
 abbrev pub IsOwn : Happened → Type 0
 IsOwn h = IsOfPeers h.event
@@ -38,19 +38,19 @@ leads_wider own more render w v wider a = record {
 }
 
 -- what peers do a server does, whatever readers it is given, and it does so with more of them
-pub peers_serve : (gave : ReaderTable → Type 0) (e : Event) → IsOfPeers e → IsOfServer gave e
-peers_serve gave events.Connect is = tt
-peers_serve gave (events.On id call) is = tt
-peers_serve gave (events.TakePuts takes) is = tt
-peers_serve gave (events.Site edit) is = absurd is
-peers_serve gave (events.Reader edit) is = absurd is
+pub peers_serve : (answered : Option ReaderTable → Type 0) (e : Event) → IsOfPeers e → IsOfServer answered e
+peers_serve answered events.Connect is = tt
+peers_serve answered (events.On id call) is = tt
+peers_serve answered (events.TakePuts takes) is = tt
+peers_serve answered (events.Site edit) is = absurd is
+peers_serve answered (events.Reader edit) is = absurd is
 
-pub given_serve : (old new : ReaderTable → Type 0) → StayGiven old new → (e : Event) → IsOfServer old e → IsOfServer new e
+pub given_serve : (old new : Option ReaderTable → Type 0) → StayAnswered old new → (e : Event) → IsOfServer old e → IsOfServer new e
 given_serve old new stay events.Connect is = tt
 given_serve old new stay (events.On id call) is = tt
 given_serve old new stay (events.TakePuts takes) is = tt
 given_serve old new stay (events.Site edit) is = absurd is
-given_serve old new stay (events.Reader (reader_edits.All readers)) is = stay readers is
+given_serve old new stay (events.Reader (reader_edits.All readers)) is = stay (Some readers) is
 given_serve old new stay (events.Reader (reader_edits.Set token reader)) is = absurd is
 given_serve old new stay (events.Reader (reader_edits.Remove token)) is = absurd is
 

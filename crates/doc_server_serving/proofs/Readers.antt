@@ -5,7 +5,7 @@ use Rattle.doc_hub_answers.specs.Replies.{Renders}
 use Rattle.doc_hub.specs.Worlds.{World}
 use Rattle.doc_server_network.specs.Readers.{ReaderTable}
 use Rattle.doc_server_serving.specs.Invariants.{GoesOn, GoesOnWith}
-use Rattle.doc_server_serving.specs.Leading.{IsOfPeers, IsOfServer, LeadsQuietly, LeadsQuietlyBy, StayGiven}
+use Rattle.doc_server_serving.specs.Leading.{IsOfPeers, IsOfServer, LeadsQuietly, LeadsQuietlyBy, StayAnswered}
 use Rattle.doc_server_serving.specs.Wirings.{Table}
 use Rattle.doc_server_serving.proofs.Accepting.{goes_silently}
 use Rattle.doc_server_serving.proofs.Going.{goes_on, goes_unheard, goes_wider}
@@ -13,14 +13,14 @@ use Rattle.doc_server_serving.proofs.Leading.{given_serve, peers_serve}
 
 module _ {N R : Type 0} (page : R → Renders) (came gone : N → ℕ → Option (List ℕ)) (wakes is_free : N → ℕ → Type 0) where
   -- the room is looked for
-  abbrev pub begun : (gave : ReaderTable → Type 0) (old new : R × World) (n : N) (t : Table) → page new.0 ≡ page old.0
-      → LeadsQuietly (page old.0) old.1 new.1 → GoesOnWith page came gone wakes is_free gave old new n n t t
-  begun gave old new n t same quiet =
-      goes_wider page came gone wakes is_free IsOfPeers (IsOfServer gave) old new n n t t (peers_serve gave)
+  abbrev pub begun : (answered : Option ReaderTable → Type 0) (old new : R × World) (n : N) (t : Table) → page new.0 ≡ page old.0
+      → LeadsQuietly (page old.0) old.1 new.1 → GoesOnWith page came gone wakes is_free answered old new n n t t
+  begun answered old new n t same quiet =
+      goes_wider page came gone wakes is_free IsOfPeers (IsOfServer answered) old new n n t t (peers_serve answered)
       (goes_silently page came gone wakes is_free old new n t same quiet)
 
   -- one part behind the other, with what was given until then
-  abbrev pub goes_further : (before behind : ReaderTable → Type 0) → StayGiven before behind → (old mid new : R × World) (n m o : N)
+  abbrev pub goes_further : (before behind : Option ReaderTable → Type 0) → StayAnswered before behind → (old mid new : R × World) (n m o : N)
       (t u v : Table) → GoesOnWith page came gone wakes is_free before old mid n m t u
       → GoesOnWith page came gone wakes is_free behind mid new m o u v → GoesOnWith page came gone wakes is_free behind old new n o t v
   goes_further before behind stay old mid new n m o t u v a b =
@@ -28,16 +28,16 @@ module _ {N R : Type 0} (page : R → Renders) (came gone : N → ℕ → Option
       (goes_wider page came gone wakes is_free (IsOfServer before) (IsOfServer behind) old mid n m t u (given_serve before behind stay) a) b
 
   -- a turn without new readers
-  pub turned : (gave : ReaderTable → Type 0) (old new : R × World) (n m : N) (t u : Table) → GoesOn page came gone wakes is_free old new n m t u
-      → GoesOnWith page came gone wakes is_free gave old new n m t u
-  turned gave old new n m t u a =
-      goes_wider page came gone wakes is_free IsOfPeers (IsOfServer gave) old new n m t u (peers_serve gave) a
+  pub turned : (answered : Option ReaderTable → Type 0) (old new : R × World) (n m : N) (t u : Table) → GoesOn page came gone wakes is_free old new n m t u
+      → GoesOnWith page came gone wakes is_free answered old new n m t u
+  turned answered old new n m t u a =
+      goes_wider page came gone wakes is_free IsOfPeers (IsOfServer answered) old new n m t u (peers_serve answered) a
 
   -- and one with them
-  pub turned_with : (gave : ReaderTable → Type 0) (old mid new : R × World) (n m : N) (t u : Table)
+  pub turned_with : (answered : Option ReaderTable → Type 0) (old mid new : R × World) (n m : N) (t u : Table)
       → GoesOn page came gone wakes is_free old mid n m t u → page new.0 ≡ page mid.0
-      → LeadsQuietlyBy (IsOfServer gave) (page mid.0) mid.1 new.1 → new.1.given ≡ mid.1.given
-      → GoesOnWith page came gone wakes is_free gave old new n m t u
-  turned_with gave old mid new n m t u a same quiet given =
-      goes_on page came gone wakes is_free (IsOfServer gave) old mid new n m m t u u (turned gave old mid n m t u a)
-      (goes_unheard page came gone wakes is_free (IsOfServer gave) mid new m u same quiet given)
+      → LeadsQuietlyBy (IsOfServer answered) (page mid.0) mid.1 new.1 → new.1.given ≡ mid.1.given
+      → GoesOnWith page came gone wakes is_free answered old new n m t u
+  turned_with answered old mid new n m t u a same quiet given =
+      goes_on page came gone wakes is_free (IsOfServer answered) old mid new n m m t u u (turned answered old mid n m t u a)
+      (goes_unheard page came gone wakes is_free (IsOfServer answered) mid new m u same quiet given)

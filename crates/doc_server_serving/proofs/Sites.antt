@@ -66,6 +66,10 @@ pub readers_same : (render : Renders) (w v : World) (readers : ReaderTable)
 readers_same render w v readers happens =
     subst (λ (g : World × Result (Unit {0}) ReaderError). IsSameSite w g.0) happens (record { site = refl; media = refl; puts = refl })
 
+pub readers_are : (render : Renders) (w v : World) (readers : ReaderTable)
+    → Happens render w (events.Reader (reader_edits.All readers)) v (Ok tt) → v.readers ≡ readers
+readers_are render w v readers happens = subst (λ (g : World × Result (Unit {0}) ReaderError). g.0.readers ≡ readers) happens refl
+
 -- ---- what is settled stays so
 
 pub restored_too : (config : StoreState) (texts : List (List ℕ)) (w v : World) → IsSameSite w v → IsRestored config texts w

@@ -35,8 +35,8 @@ module _ {N R : Type 0} (page : R → Renders) (came gone : N → ℕ → Option
   GoesOn old new n m before after = GoesOnBy IsOfPeers old new n m before after
 
   -- or of readers that were given
-  abbrev pub GoesOnWith : (ReaderTable → Type 0) → R × World → R × World → N → N → Table → Table → Type 0
-  GoesOnWith gave old new n m before after = GoesOnBy (IsOfServer gave) old new n m before after
+  abbrev pub GoesOnWith : (Option ReaderTable → Type 0) → R × World → R × World → N → N → Table → Table → Type 0
+  GoesOnWith answered old new n m before after = GoesOnBy (IsOfServer answered) old new n m before after
 
 -- On each connection a front of what the run sent there was handed over, and nothing else; and what it pushed there is a front of what came.
 abbrev pub IsServed : List Happened → (ℕ → Option (List ℕ)) → (ℕ → Option (List ℕ)) → Type 0

@@ -1,5 +1,5 @@
 -- What serving does to a hub.
-use Rattle.std.specs.Prelude.{◌≡◌, ⊤, ℕ, List, [], All}
+use Rattle.std.specs.Prelude.{◌≡◌, ⊤, ℕ, List, [], All, Option, Some, None}
 use Rattle.doc_hub_answers.specs.Replies.{Renders}
 use Rattle.doc_hub.specs.Runs.{Happened, Runs, sent_on}
 use Rattle.doc_hub.specs.RunParts.{pushed_on}
@@ -16,10 +16,10 @@ IsOfPeers (events.On id call) = ⊤
 IsOfPeers (events.TakePuts takes) = ⊤
 IsOfPeers event = ⊥
 
--- one of these, or readers that were given, all at once
-abbrev pub IsOfServer : (ReaderTable → Type 0) → Event → Type 0
-IsOfServer gave (events.Reader (reader_edits.All readers)) = gave readers
-IsOfServer gave event = IsOfPeers event
+-- one of these, or readers that somebody who was asked has answered, all at once
+abbrev pub IsOfServer : (Option ReaderTable → Type 0) → Event → Type 0
+IsOfServer answered (events.Reader (reader_edits.All readers)) = answered (Some readers)
+IsOfServer answered event = IsOfPeers event
 
 -- a run of such events alone leads from one world to the other
 pub record LeadsBy (own : Event → Type 0) (render : Renders) (w v : World) : Type 0 where
@@ -30,8 +30,8 @@ pub record LeadsBy (own : Event → Type 0) (render : Renders) (w v : World) : T
 abbrev pub Leads : Renders → World → World → Type 0
 Leads render w v = LeadsBy IsOfPeers render w v
 
-abbrev pub LeadsWith : (ReaderTable → Type 0) → Renders → World → World → Type 0
-LeadsWith gave render w v = LeadsBy (IsOfServer gave) render w v
+abbrev pub LeadsWith : (Option ReaderTable → Type 0) → Renders → World → World → Type 0
+LeadsWith answered render w v = LeadsBy (IsOfServer answered) render w v
 
 -- one that pushes nothing to anybody's connection, and sends nothing there
 pub record LeadsQuietlyBy (own : Event → Type 0) (render : Renders) (w v : World) : Type 0 where
@@ -42,6 +42,16 @@ pub record LeadsQuietlyBy (own : Event → Type 0) (render : Renders) (w v : Wor
 abbrev pub LeadsQuietly : Renders → World → World → Type 0
 LeadsQuietly render w v = LeadsQuietlyBy IsOfPeers render w v
 
--- what was given before was given behind it
-abbrev pub StayGiven : (ReaderTable → Type 0) → (ReaderTable → Type 0) → Type 0
-StayGiven old new = (readers : ReaderTable) → old readers → new readers
+-- each answer before was given behind it
+abbrev pub StayAnswered : (Option ReaderTable → Type 0) → (Option ReaderTable → Type 0) → Type 0
+StayAnswered old new = (answer : Option ReaderTable) → old answer → new answer
+
+-- the readers behind an answer: those that it gives, or as before
+abbrev pub readers_behind : ReaderTable → Option ReaderTable → ReaderTable
+readers_behind before None = before
+readers_behind before (Some readers) = readers
+
+-- somebody was asked, and the readers are those of the answer
+abbrev pub AreTaken : (Option ReaderTable → Type 0) → ReaderTable → ReaderTable → Type 0
+AreTaken answered before behind =
+    (answer : Option ReaderTable) × answered answer × (behind ≡ readers_behind before answer)

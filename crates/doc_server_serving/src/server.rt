@@ -6,12 +6,13 @@ ghost use Rattle.std.specs.List.{list_any};
 ghost use Rattle.doc_hub.specs.Worlds.{World};
 ghost use Rattle.doc_server_network.specs.Crashes.{CrashesLeave, Restores, RestoresEither};
 ghost use Rattle.doc_server_network.specs.Networks.{Recalls, WasAsked, WasWaitedFor, end_of_input, input_came};
+ghost use Rattle.doc_server_network.specs.Readers.{ReaderTable};
 ghost use Rattle.doc_server_network.specs.Saved.{IsAllSaved, IsReady, IsSaved, IsSettled, StaysSaved};
 ghost use Rattle.doc_server_serving.specs.Crashing.{AreKnown, RestoresFront};
 ghost use Rattle.doc_server_serving.specs.Doors.{is_open};
 ghost use Rattle.doc_server_serving.specs.Hearing.{HeardAt, IsMinded, WaitOn};
 ghost use Rattle.doc_server_serving.specs.Invariants.{AreFree, GoesOn, GoesOnWith, HasServedNobody, IsServed};
-ghost use Rattle.doc_server_serving.specs.Leading.{IsOfServer, LeadsQuietly, LeadsQuietlyBy, LeadsWith, StayGiven};
+ghost use Rattle.doc_server_serving.specs.Leading.{AreTaken, IsOfServer, LeadsQuietly, LeadsQuietlyBy, LeadsWith, StayAnswered};
 ghost use Rattle.doc_server_serving.specs.Parts.{takes_part_at, turn_of};
 ghost use Rattle.doc_server_serving.specs.Sharing.{times_among};
 ghost use Rattle.doc_server_serving.specs.Sites.{IsSameSite};
@@ -125,7 +126,7 @@ impl Server {
         requires ready { IsReady D.seen D.may_leave D.failed D.stale saved.old }
         requires new { HasServedNobody saved.old.hub.1.given (N.came net.old) (N.gone net.old)
             (N.is_free net.old) self.old.peers }
-        ensures served { (s : LeadsWith (S.gave source.new) (R.page saved.old.hub.0)
+        ensures served { (s : LeadsWith (S.answered source.new) (R.page saved.old.hub.0)
             saved.old.hub.1 saved.new.hub.1)
             × IsServed s.run (N.came net.new) (N.gone net.new) }
         ensures woken { AreWoken (N.wakes net.new) self.new.peers }
@@ -137,7 +138,7 @@ impl Server {
         ensures settled { (config : StoreState)
             → IsSettled D.seen D.may_leave D.failed D.stale config saved.old
             → OnOk result (IsSettled D.seen D.may_leave D.failed D.stale config saved.new) }
-        ensures any_moment { (s : LeadsWith (S.gave source.new) (R.page saved.old.hub.0)
+        ensures any_moment { (s : LeadsWith (S.answered source.new) (R.page saved.old.hub.0)
             saved.old.hub.1 saved.new.hub.1)
             × IsServed s.run (N.came net.new) (N.gone net.new)
             × ((config : StoreState) → AreKnown D.seen
@@ -166,9 +167,12 @@ impl Server {
         requires all { IsAllSaved saved.old }
         requires ready { IsReady D.seen D.may_leave D.failed D.stale saved.old }
         requires free { AreFree saved.old.hub.1.given (N.is_free net.old) }
-        ensures goes { GoesOnWith R.page N.came N.gone N.wakes N.is_free (S.gave source.new)
+        ensures goes { GoesOnWith R.page N.came N.gone N.wakes N.is_free (S.answered source.new)
             saved.old.hub saved.new.hub net.old net.new self.old.peers self.new.peers }
-        ensures keeps { StayGiven (S.gave source.old) (S.gave source.new) }
+        ensures keeps { StayAnswered (S.answered source.old) (S.answered source.new) }
+        ensures takes { IfOk result (λ has_ended. has_ended ≡ false
+            → self.new.hears_input ≡ true → (before : ReaderTable)
+            × AreTaken (S.answered source.new) before saved.new.hub.1.readers) }
         ensures bound { map.len self.old.peers ≤ self.old.door.most
             → map.len self.new.peers ≤ self.old.door.most }
         ensures most { self.new.door.most ≡ self.old.door.most }
@@ -402,9 +406,11 @@ fn take_readers<S: Source, D: Device, R: Renderer + Drop>(
     source: &mut S,
     saved: &mut SavedHub<D, R>,
 )
-    ensures quiet { LeadsQuietlyBy (IsOfServer (S.gave source.new)) (R.page saved.old.hub.0)
+    ensures quiet { LeadsQuietlyBy (IsOfServer (S.answered source.new)) (R.page saved.old.hub.0)
         saved.old.hub.1 saved.new.hub.1 }
-    ensures keeps { StayGiven (S.gave source.old) (S.gave source.new) }
+    ensures keeps { StayAnswered (S.answered source.old) (S.answered source.new) }
+    ensures takes { AreTaken (S.answered source.new) saved.old.hub.1.readers
+        saved.new.hub.1.readers }
     ensures given { saved.new.hub.1.given ≡ saved.old.hub.1.given }
     ensures same { R.page saved.new.hub.0 ≡ R.page saved.old.hub.0 }
     ensures site { IsSameSite saved.old.hub.1 saved.new.hub.1 }

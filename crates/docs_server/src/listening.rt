@@ -162,7 +162,7 @@ fn listen_on<H: Host, R: Renderer + Drop, C: Clock, W: Watch + Drop, S: Source>(
 ) -> Result<Ended<H::Device, H::Network, R, W>, HostingFault<H::Fault>>
     ensures hosted { IfOk result (λ ended. IsHosted H.Device.seen H.Device.may_leave
         H.Device.failed H.Device.stale H.Device.moment H.Device.left_since
-        (S.gave source.new) (R.page hub.0) (H.file host.now) (option_copied journal.entry)
+        (S.answered source.new) (R.page hub.0) (H.file host.now) (option_copied journal.entry)
         hub.1 ended.saved
         (H.Network.came ended.net) (H.Network.gone ended.net) (ended.served ≡ Ok tt)) }
     ensures woken { IfOk result (λ ended. AreWoken (H.Network.wakes ended.net) ended.server.peers) }

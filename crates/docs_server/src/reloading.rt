@@ -113,7 +113,7 @@ impl<'a, P: Eprint + Files + Input> Reloading<'a, P> {
 impl<P: Eprint + Files + Input> Source for Reloading<'_, P> {
     ghost use Rattle.std.specs.Prelude.{⊤};
 
-    ghost gave = { λ _ _. ⊤ };
+    ghost answered = { λ _ _. ⊤ };
 
     fn hear(&mut self) -> Option<Readers> {
         if !self.is_asked() {

@@ -28,7 +28,7 @@ returns-in-None-clause-hosted g c =
     let end = c.serve-in-None.result in
     hosted g.H.Device.Device.seen g.H.Device.Device.may_leave g.H.Device.Device.failed g.H.Device.Device.stale
     g.H.Device.Device.moment g.H.Device.Device.left_since (g.R.Renderer.page c.args.hub.0) (g.R.Renderer.page c.in_ok-saved.saved.hub.0) (g.H.Host.file c.args.host.now)
-    (option_copied c.args.terms.now.journal) c.args.hub.1 c.in_ok-saved.saved end.saved (g.S.Source.gave c.serve-in-None.new.source) (g.H.Network.Network.came end.net)
+    (option_copied c.args.terms.now.journal) c.args.hub.1 c.in_ok-saved.saved end.saved (g.S.Source.answered c.serve-in-None.new.source) (g.H.Network.Network.came end.net)
     (g.H.Network.Network.gone end.net) (end.served ≡ Ok tt) c.in_ok-saved.ensures.same c.in_ok-saved.ensures.ready
     c.serve-in-None.ensures.served
     (λ config is well. subst (λ r. OnOk r (IsSettled g.H.Device.Device.seen g.H.Device.Device.may_leave g.H.Device.Device.failed
@@ -39,21 +39,21 @@ returns-in-Some-clause-hosted g c =
     let end = c.serve.result in
     let is = hosted g.H.Device.Device.seen g.H.Device.Device.may_leave g.H.Device.Device.failed g.H.Device.Device.stale
     g.H.Device.Device.moment g.H.Device.Device.left_since (g.R.Renderer.page c.args.hub.0) (g.R.Renderer.page c.in_ok-saved.saved.hub.0) (g.H.Host.file c.args.host.now)
-    (option_copied c.args.terms.now.journal) c.args.hub.1 c.in_ok-saved.saved end.saved (g.S.Source.gave c.serve.new.source) (g.H.Network.Network.came end.net.net)
+    (option_copied c.args.terms.now.journal) c.args.hub.1 c.in_ok-saved.saved end.saved (g.S.Source.answered c.serve.new.source) (g.H.Network.Network.came end.net.net)
     (g.H.Network.Network.gone end.net.net) (end.served ≡ Ok tt) c.in_ok-saved.ensures.same c.in_ok-saved.ensures.ready
     c.serve.ensures.served
     (λ config is well. subst (λ r. OnOk r (IsSettled g.H.Device.Device.seen g.H.Device.Device.may_leave g.H.Device.Device.failed
     g.H.Device.Device.stale config end.saved)) well (c.serve.ensures.settled config is)) in
     subst (λ served. IsHosted g.H.Device.Device.seen g.H.Device.Device.may_leave g.H.Device.Device.failed g.H.Device.Device.stale
-    g.H.Device.Device.moment g.H.Device.Device.left_since (g.S.Source.gave c.serve.new.source) (g.R.Renderer.page c.args.hub.0) (g.H.Host.file c.args.host.now) (option_copied c.args.terms.now.journal) c.args.hub.1
+    g.H.Device.Device.moment g.H.Device.Device.left_since (g.S.Source.answered c.serve.new.source) (g.R.Renderer.page c.args.hub.0) (g.H.Host.file c.args.host.now) (option_copied c.args.terms.now.journal) c.args.hub.1
     c.unwatched.result.saved (g.H.Network.Network.came c.unwatched.result.net) (g.H.Network.Network.gone c.unwatched.result.net)
     (served ≡ Ok tt)) (sym c.unwatched.ensures.served)
     (subst (λ net. IsHosted g.H.Device.Device.seen g.H.Device.Device.may_leave g.H.Device.Device.failed g.H.Device.Device.stale
-    g.H.Device.Device.moment g.H.Device.Device.left_since (g.S.Source.gave c.serve.new.source) (g.R.Renderer.page c.args.hub.0) (g.H.Host.file c.args.host.now) (option_copied c.args.terms.now.journal) c.args.hub.1
+    g.H.Device.Device.moment g.H.Device.Device.left_since (g.S.Source.answered c.serve.new.source) (g.R.Renderer.page c.args.hub.0) (g.H.Host.file c.args.host.now) (option_copied c.args.terms.now.journal) c.args.hub.1
     c.unwatched.result.saved (g.H.Network.Network.came net) (g.H.Network.Network.gone net) (end.served ≡ Ok tt))
     (sym c.unwatched.ensures.net)
     (subst (λ saved. IsHosted g.H.Device.Device.seen g.H.Device.Device.may_leave g.H.Device.Device.failed g.H.Device.Device.stale
-    g.H.Device.Device.moment g.H.Device.Device.left_since (g.S.Source.gave c.serve.new.source) (g.R.Renderer.page c.args.hub.0) (g.H.Host.file c.args.host.now) (option_copied c.args.terms.now.journal) c.args.hub.1
+    g.H.Device.Device.moment g.H.Device.Device.left_since (g.S.Source.answered c.serve.new.source) (g.R.Renderer.page c.args.hub.0) (g.H.Host.file c.args.host.now) (option_copied c.args.terms.now.journal) c.args.hub.1
     saved (g.H.Network.Network.came end.net.net) (g.H.Network.Network.gone end.net.net) (end.served ≡ Ok tt))
     (sym c.unwatched.ensures.saved) is))
 

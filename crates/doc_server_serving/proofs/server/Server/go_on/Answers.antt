@@ -1,8 +1,15 @@
-use Rattle.std.proofs.Common.{ℕ}
+use Rattle.std.proofs.Common.{◌≡◌, ℕ, Bool, true, false, not}
 use Rattle.doc_server_serving.proofs.Crashing.{ended_behind}
 use Rattle.doc_server_serving.proofs.Readers.{turned, turned_with}
 use Rattle.doc_server_serving.proofs.Sites.{all_saved_too, settled_too}
 use Rattle.doc_server_serving.proofs.server.Server.go_on.Goals as goal
+
+not_both : true ≡ false → ⊥
+not_both e = cc
+
+unheard : (hears : Bool) → not hears ≡ true → hears ≡ true → ⊥
+unheard true silent is = cc
+unheard false silent is = cc
 
 pub turn-requires-clause-all : goal.turn-requires-clause-all
 turn-requires-clause-all g c = c.requires.all
@@ -15,32 +22,32 @@ turn-requires-clause-free g c = c.requires.free
 
 pub returns-in_err-turn-clause-goes : goal.returns-in_err-turn-clause-goes
 returns-in_err-turn-clause-goes g c =
-    turned g.R.Renderer.page g.N.Network.came g.N.Network.gone g.N.Network.wakes g.N.Network.is_free (g.S.Source.gave c.args.source.now)
+    turned g.R.Renderer.page g.N.Network.came g.N.Network.gone g.N.Network.wakes g.N.Network.is_free (g.S.Source.answered c.args.source.now)
     c.args.saved.now.hub c.turn.new.saved.hub c.args.net.now c.turn.new.net c.args.self.now.peers c.turn.new.self.peers c.turn.ensures.goes
 
 pub returns-in_err-turn-clause-keeps : goal.returns-in_err-turn-clause-keeps
-returns-in_err-turn-clause-keeps g c = λ readers gave. gave
+returns-in_err-turn-clause-keeps g c = λ readers answered. answered
 
 pub returns-then-branch-clause-goes : goal.returns-then-branch-clause-goes
 returns-then-branch-clause-goes g c =
-    turned g.R.Renderer.page g.N.Network.came g.N.Network.gone g.N.Network.wakes g.N.Network.is_free (g.S.Source.gave c.args.source.now)
+    turned g.R.Renderer.page g.N.Network.came g.N.Network.gone g.N.Network.wakes g.N.Network.is_free (g.S.Source.answered c.args.source.now)
     c.args.saved.now.hub c.turn.new.saved.hub c.args.net.now c.turn.new.net c.args.self.now.peers c.turn.new.self.peers c.turn.ensures.goes
 
 pub returns-then-branch-clause-keeps : goal.returns-then-branch-clause-keeps
-returns-then-branch-clause-keeps g c = λ readers gave. gave
+returns-then-branch-clause-keeps g c = λ readers answered. answered
 
 pub returns-then-not-hears_input-clause-goes : goal.returns-then-not-hears_input-clause-goes
 returns-then-not-hears_input-clause-goes g c =
-    turned g.R.Renderer.page g.N.Network.came g.N.Network.gone g.N.Network.wakes g.N.Network.is_free (g.S.Source.gave c.args.source.now)
+    turned g.R.Renderer.page g.N.Network.came g.N.Network.gone g.N.Network.wakes g.N.Network.is_free (g.S.Source.answered c.args.source.now)
     c.args.saved.now.hub c.turn.new.saved.hub c.args.net.now c.turn.new.net c.args.self.now.peers c.turn.new.self.peers c.turn.ensures.goes
 
 pub returns-then-not-hears_input-clause-keeps : goal.returns-then-not-hears_input-clause-keeps
-returns-then-not-hears_input-clause-keeps g c = λ readers gave. gave
+returns-then-not-hears_input-clause-keeps g c = λ readers answered. answered
 
 pub returns-clause-goes : goal.returns-clause-goes
 returns-clause-goes g c =
     turned_with g.R.Renderer.page g.N.Network.came g.N.Network.gone g.N.Network.wakes g.N.Network.is_free
-    (g.S.Source.gave c.take_readers.new.source) c.args.saved.now.hub c.turn.new.saved.hub c.take_readers.new.saved.hub
+    (g.S.Source.answered c.take_readers.new.source) c.args.saved.now.hub c.turn.new.saved.hub c.take_readers.new.saved.hub
     c.args.net.now c.turn.new.net c.args.self.now.peers c.turn.new.self.peers c.turn.ensures.goes c.take_readers.ensures.same
     c.take_readers.ensures.quiet c.take_readers.ensures.given
 
@@ -65,3 +72,12 @@ returns-clause-any_moment g c =
     ended_behind g.D.Device.seen g.D.Device.moment g.D.Device.left_since config c.args.saved.now.hub.1 c.turn.new.saved.hub.1
     c.take_readers.new.saved.hub.1 c.args.saved.now.journal c.turn.new.saved.journal c.take_readers.new.saved.journal
     c.take_readers.ensures.site c.take_readers.ensures.journal (c.turn.ensures.any_moment config all is)
+
+pub returns-then-branch-clause-takes : goal.returns-then-branch-clause-takes
+returns-then-branch-clause-takes g c = λ goes. absurd (not_both goes)
+
+pub returns-then-not-hears_input-clause-takes : goal.returns-then-not-hears_input-clause-takes
+returns-then-not-hears_input-clause-takes g c = λ goes hears. absurd (unheard c.turn.new.self.hears_input c.if-not-hears_input.true hears)
+
+pub returns-clause-takes : goal.returns-clause-takes
+returns-clause-takes g c = λ goes hears. (c.turn.new.saved.hub.1.readers, c.take_readers.ensures.takes)

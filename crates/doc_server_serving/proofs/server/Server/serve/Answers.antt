@@ -20,7 +20,7 @@ turns-init g c = record {
   bound = nobody c.args.self.now.peers c.args.self.now.door.most (λ k. (c.requires.new.new k).none);
   most = refl;
   waited = inl refl;
-  goes = begun g.R.Renderer.page g.N.Network.came g.N.Network.gone g.N.Network.wakes g.N.Network.is_free (g.S.Source.gave c.args.source.now)
+  goes = begun g.R.Renderer.page g.N.Network.came g.N.Network.gone g.N.Network.wakes g.N.Network.is_free (g.S.Source.answered c.args.source.now)
       c.args.saved.now.hub c.keep_room.new.saved.hub c.args.net.now c.args.self.now.peers c.keep_room.ensures.same c.keep_room.ensures.quiet;
   crashes = λ config all is.
       leaves_weaker g.D.Device.seen g.D.Device.moment g.D.Device.left_since (Restores config c.args.saved.now.hub.1)
@@ -42,11 +42,11 @@ go_on-requires-clause-free g c = c.turns.invariant.goes.free c.requires.new.free
 pub returns-in_err-keep_room-clause-served : goal.returns-in_err-keep_room-clause-served
 returns-in_err-keep_room-clause-served g c =
     let goes = begun g.R.Renderer.page g.N.Network.came g.N.Network.gone g.N.Network.wakes g.N.Network.is_free
-    (g.S.Source.gave c.args.source.now) c.args.saved.now.hub c.keep_room.new.saved.hub c.args.net.now c.args.self.now.peers
+    (g.S.Source.answered c.args.source.now) c.args.saved.now.hub c.keep_room.new.saved.hub c.args.net.now c.args.self.now.peers
     c.keep_room.ensures.same c.keep_room.ensures.quiet in (
       goes.leads,
       served g.R.Renderer.page g.N.Network.came g.N.Network.gone g.N.Network.wakes g.N.Network.is_free
-          (IsOfServer (g.S.Source.gave c.args.source.now)) c.args.saved.now.hub
+          (IsOfServer (g.S.Source.answered c.args.source.now)) c.args.saved.now.hub
           c.keep_room.new.saved.hub c.args.net.now c.args.net.now c.args.self.now.peers c.args.self.now.peers c.requires.new goes,
     )
 
@@ -58,12 +58,12 @@ returns-in_err-keep_room-clause-woken g c =
 pub returns-in_err-go_on-clause-served : goal.returns-in_err-go_on-clause-served
 returns-in_err-go_on-clause-served g c =
     let goes = goes_further g.R.Renderer.page g.N.Network.came g.N.Network.gone g.N.Network.wakes g.N.Network.is_free
-    (g.S.Source.gave c.turns.source) (g.S.Source.gave c.go_on.new.source) c.go_on.ensures.keeps c.args.saved.now.hub c.turns.saved.hub
+    (g.S.Source.answered c.turns.source) (g.S.Source.answered c.go_on.new.source) c.go_on.ensures.keeps c.args.saved.now.hub c.turns.saved.hub
     c.go_on.new.saved.hub c.args.net.now c.turns.net c.go_on.new.net c.args.self.now.peers c.turns.self.peers c.go_on.new.self.peers
     c.turns.invariant.goes c.go_on.ensures.goes in (
       goes.leads,
       served g.R.Renderer.page g.N.Network.came g.N.Network.gone g.N.Network.wakes g.N.Network.is_free
-          (IsOfServer (g.S.Source.gave c.go_on.new.source)) c.args.saved.now.hub
+          (IsOfServer (g.S.Source.answered c.go_on.new.source)) c.args.saved.now.hub
           c.go_on.new.saved.hub c.args.net.now c.go_on.new.net c.args.self.now.peers c.go_on.new.self.peers c.requires.new goes,
     )
 
@@ -76,12 +76,12 @@ returns-in_err-go_on-clause-woken g c =
 pub returns-then-branch-clause-served : goal.returns-then-branch-clause-served
 returns-then-branch-clause-served g c =
     let goes = goes_further g.R.Renderer.page g.N.Network.came g.N.Network.gone g.N.Network.wakes g.N.Network.is_free
-    (g.S.Source.gave c.turns.source) (g.S.Source.gave c.go_on.new.source) c.go_on.ensures.keeps c.args.saved.now.hub c.turns.saved.hub
+    (g.S.Source.answered c.turns.source) (g.S.Source.answered c.go_on.new.source) c.go_on.ensures.keeps c.args.saved.now.hub c.turns.saved.hub
     c.go_on.new.saved.hub c.args.net.now c.turns.net c.go_on.new.net c.args.self.now.peers c.turns.self.peers c.go_on.new.self.peers
     c.turns.invariant.goes c.go_on.ensures.goes in (
       goes.leads,
       served g.R.Renderer.page g.N.Network.came g.N.Network.gone g.N.Network.wakes g.N.Network.is_free
-          (IsOfServer (g.S.Source.gave c.go_on.new.source)) c.args.saved.now.hub
+          (IsOfServer (g.S.Source.answered c.go_on.new.source)) c.args.saved.now.hub
           c.go_on.new.saved.hub c.args.net.now c.go_on.new.net c.args.self.now.peers c.go_on.new.self.peers c.requires.new goes,
     )
 
@@ -101,7 +101,7 @@ turns-preserved g c = record {
   most = c.go_on.ensures.most ∙ c.turns.invariant.most;
   waited = inr c.go_on.ensures.waits;
   goes = goes_further g.R.Renderer.page g.N.Network.came g.N.Network.gone g.N.Network.wakes g.N.Network.is_free
-      (g.S.Source.gave c.turns.source) (g.S.Source.gave c.go_on.new.source) c.go_on.ensures.keeps c.args.saved.now.hub
+      (g.S.Source.answered c.turns.source) (g.S.Source.answered c.go_on.new.source) c.go_on.ensures.keeps c.args.saved.now.hub
       c.turns.saved.hub c.go_on.new.saved.hub c.args.net.now c.turns.net c.go_on.new.net c.args.self.now.peers c.turns.self.peers
       c.go_on.new.self.peers c.turns.invariant.goes c.go_on.ensures.goes;
   crashes = λ config all is.
@@ -110,7 +110,7 @@ turns-preserved g c = record {
       (g.R.Renderer.page c.args.saved.now.hub.0) c.turns.invariant.goes.leads.run c.go_on.ensures.goes.leads.run
       c.turns.invariant.goes.leads.runs
       (goes_further g.R.Renderer.page g.N.Network.came g.N.Network.gone g.N.Network.wakes g.N.Network.is_free
-      (g.S.Source.gave c.turns.source) (g.S.Source.gave c.go_on.new.source) c.go_on.ensures.keeps c.args.saved.now.hub
+      (g.S.Source.answered c.turns.source) (g.S.Source.answered c.go_on.new.source) c.go_on.ensures.keeps c.args.saved.now.hub
       c.turns.saved.hub c.go_on.new.saved.hub c.args.net.now c.turns.net c.go_on.new.net c.args.self.now.peers c.turns.self.peers
       c.go_on.new.self.peers c.turns.invariant.goes c.go_on.ensures.goes).leads.runs (c.turns.invariant.crashes config all is)
       (c.go_on.ensures.any_moment config all (c.turns.invariant.settled config is));
@@ -120,7 +120,7 @@ pub returns-clause-served : goal.returns-clause-served
 returns-clause-served g c = (
   c.turns.invariant.goes.leads,
   served g.R.Renderer.page g.N.Network.came g.N.Network.gone g.N.Network.wakes g.N.Network.is_free
-      (IsOfServer (g.S.Source.gave c.turns.source)) c.args.saved.now.hub c.turns.saved.hub c.args.net.now c.turns.net c.args.self.now.peers c.turns.self.peers c.requires.new
+      (IsOfServer (g.S.Source.answered c.turns.source)) c.args.saved.now.hub c.turns.saved.hub c.args.net.now c.turns.net c.args.self.now.peers c.turns.self.peers c.requires.new
       c.turns.invariant.goes,
 )
 
@@ -147,11 +147,11 @@ returns-then-branch-clause-bound g c =
 pub returns-in_err-keep_room-clause-any_moment : goal.returns-in_err-keep_room-clause-any_moment
 returns-in_err-keep_room-clause-any_moment g c =
     let goes = begun g.R.Renderer.page g.N.Network.came g.N.Network.gone g.N.Network.wakes g.N.Network.is_free
-    (g.S.Source.gave c.args.source.now) c.args.saved.now.hub c.keep_room.new.saved.hub c.args.net.now c.args.self.now.peers
+    (g.S.Source.answered c.args.source.now) c.args.saved.now.hub c.keep_room.new.saved.hub c.args.net.now c.args.self.now.peers
     c.keep_room.ensures.same c.keep_room.ensures.quiet in (
       goes.leads,
       served g.R.Renderer.page g.N.Network.came g.N.Network.gone g.N.Network.wakes g.N.Network.is_free
-          (IsOfServer (g.S.Source.gave c.args.source.now)) c.args.saved.now.hub
+          (IsOfServer (g.S.Source.answered c.args.source.now)) c.args.saved.now.hub
           c.keep_room.new.saved.hub c.args.net.now c.args.net.now c.args.self.now.peers c.args.self.now.peers c.requires.new goes,
       λ config all is.
           leaves_weaker g.D.Device.seen g.D.Device.moment g.D.Device.left_since (Restores config c.args.saved.now.hub.1)
@@ -164,12 +164,12 @@ returns-in_err-keep_room-clause-any_moment g c =
 pub returns-in_err-go_on-clause-any_moment : goal.returns-in_err-go_on-clause-any_moment
 returns-in_err-go_on-clause-any_moment g c =
     let goes = goes_further g.R.Renderer.page g.N.Network.came g.N.Network.gone g.N.Network.wakes g.N.Network.is_free
-    (g.S.Source.gave c.turns.source) (g.S.Source.gave c.go_on.new.source) c.go_on.ensures.keeps c.args.saved.now.hub c.turns.saved.hub
+    (g.S.Source.answered c.turns.source) (g.S.Source.answered c.go_on.new.source) c.go_on.ensures.keeps c.args.saved.now.hub c.turns.saved.hub
     c.go_on.new.saved.hub c.args.net.now c.turns.net c.go_on.new.net c.args.self.now.peers c.turns.self.peers c.go_on.new.self.peers
     c.turns.invariant.goes c.go_on.ensures.goes in (
       goes.leads,
       served g.R.Renderer.page g.N.Network.came g.N.Network.gone g.N.Network.wakes g.N.Network.is_free
-          (IsOfServer (g.S.Source.gave c.go_on.new.source)) c.args.saved.now.hub
+          (IsOfServer (g.S.Source.answered c.go_on.new.source)) c.args.saved.now.hub
           c.go_on.new.saved.hub c.args.net.now c.go_on.new.net c.args.self.now.peers c.go_on.new.self.peers c.requires.new goes,
       λ config all is.
           turn_behind g.D.Device.seen g.D.Device.moment g.D.Device.left_since config c.args.saved.now.hub.1 c.turns.saved.hub.1
@@ -177,7 +177,7 @@ returns-in_err-go_on-clause-any_moment g c =
           (g.R.Renderer.page c.args.saved.now.hub.0) c.turns.invariant.goes.leads.run c.go_on.ensures.goes.leads.run
           c.turns.invariant.goes.leads.runs
           (goes_further g.R.Renderer.page g.N.Network.came g.N.Network.gone g.N.Network.wakes g.N.Network.is_free
-          (g.S.Source.gave c.turns.source) (g.S.Source.gave c.go_on.new.source) c.go_on.ensures.keeps c.args.saved.now.hub
+          (g.S.Source.answered c.turns.source) (g.S.Source.answered c.go_on.new.source) c.go_on.ensures.keeps c.args.saved.now.hub
           c.turns.saved.hub c.go_on.new.saved.hub c.args.net.now c.turns.net c.go_on.new.net c.args.self.now.peers c.turns.self.peers
           c.go_on.new.self.peers c.turns.invariant.goes c.go_on.ensures.goes).leads.runs (c.turns.invariant.crashes config all is)
           (c.go_on.ensures.any_moment config all (c.turns.invariant.settled config is)),
@@ -186,12 +186,12 @@ returns-in_err-go_on-clause-any_moment g c =
 pub returns-then-branch-clause-any_moment : goal.returns-then-branch-clause-any_moment
 returns-then-branch-clause-any_moment g c =
     let goes = goes_further g.R.Renderer.page g.N.Network.came g.N.Network.gone g.N.Network.wakes g.N.Network.is_free
-    (g.S.Source.gave c.turns.source) (g.S.Source.gave c.go_on.new.source) c.go_on.ensures.keeps c.args.saved.now.hub c.turns.saved.hub
+    (g.S.Source.answered c.turns.source) (g.S.Source.answered c.go_on.new.source) c.go_on.ensures.keeps c.args.saved.now.hub c.turns.saved.hub
     c.go_on.new.saved.hub c.args.net.now c.turns.net c.go_on.new.net c.args.self.now.peers c.turns.self.peers c.go_on.new.self.peers
     c.turns.invariant.goes c.go_on.ensures.goes in (
       goes.leads,
       served g.R.Renderer.page g.N.Network.came g.N.Network.gone g.N.Network.wakes g.N.Network.is_free
-          (IsOfServer (g.S.Source.gave c.go_on.new.source)) c.args.saved.now.hub
+          (IsOfServer (g.S.Source.answered c.go_on.new.source)) c.args.saved.now.hub
           c.go_on.new.saved.hub c.args.net.now c.go_on.new.net c.args.self.now.peers c.go_on.new.self.peers c.requires.new goes,
       λ config all is.
           turn_behind g.D.Device.seen g.D.Device.moment g.D.Device.left_since config c.args.saved.now.hub.1 c.turns.saved.hub.1
@@ -199,7 +199,7 @@ returns-then-branch-clause-any_moment g c =
           (g.R.Renderer.page c.args.saved.now.hub.0) c.turns.invariant.goes.leads.run c.go_on.ensures.goes.leads.run
           c.turns.invariant.goes.leads.runs
           (goes_further g.R.Renderer.page g.N.Network.came g.N.Network.gone g.N.Network.wakes g.N.Network.is_free
-          (g.S.Source.gave c.turns.source) (g.S.Source.gave c.go_on.new.source) c.go_on.ensures.keeps c.args.saved.now.hub
+          (g.S.Source.answered c.turns.source) (g.S.Source.answered c.go_on.new.source) c.go_on.ensures.keeps c.args.saved.now.hub
           c.turns.saved.hub c.go_on.new.saved.hub c.args.net.now c.turns.net c.go_on.new.net c.args.self.now.peers c.turns.self.peers
           c.go_on.new.self.peers c.turns.invariant.goes c.go_on.ensures.goes).leads.runs (c.turns.invariant.crashes config all is)
           (c.go_on.ensures.any_moment config all (c.turns.invariant.settled config is)),

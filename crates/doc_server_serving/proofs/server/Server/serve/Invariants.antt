@@ -19,7 +19,7 @@ invariant-turns g l = record {
   most : l.self.door.most ≡ l.fn.self.door.most;
   waited : (l.counter ≡ 0) ⊎ WasWaitedFor (g.N.Network.made l.net);
   goes : GoesOnWith g.R.Renderer.page g.N.Network.came g.N.Network.gone g.N.Network.wakes g.N.Network.is_free
-      (g.S.Source.gave l.source) l.fn.saved.hub l.saved.hub
+      (g.S.Source.answered l.source) l.fn.saved.hub l.saved.hub
       l.fn.net l.net l.fn.self.peers l.self.peers;
   crashes : (config : StoreState) → AreKnown g.D.Device.seen
       → IsSettled g.D.Device.seen g.D.Device.may_leave g.D.Device.failed g.D.Device.stale config l.fn.saved
