@@ -1,0 +1,9 @@
+use Rattle.std.proofs.Common.{append_assoc}
+use Rattle.doc_server_status.specs.Replies.{length_line}
+use Rattle.doc_server_status.proofs.head.push_length_line.Goals as goal
+
+pub returns : goal.returns
+unfolding length_line
+returns c =
+    rw (c.in_ok-write.ensures.bytes)
+    (simp append_assoc)

@@ -1,0 +1,45 @@
+-- The counters as Prometheus reads them (its text format, version 0.0.4).
+use Rattle.std.specs.Prelude.{ℕ, List, ◌++◌, codes, decimal}
+use Rattle.doc_server_status.specs.declared.counters.Counters.{Counters}
+use Rattle.doc_server_status.specs.declared.replies.Replies.{Replies}
+
+-- what a metric is, and its kind: two lines in front of its samples
+unfoldable pub heading : List ℕ → List ℕ → List ℕ → List ℕ
+heading kind name help =
+    codes "# HELP " ++ name ++ codes " " ++ help ++ codes "\n# TYPE " ++ name ++ codes " " ++ kind ++ codes "\n"
+
+-- a sample: the name, with labels where it has some, and the value
+unfoldable pub sample : List ℕ → List ℕ → List ℕ
+sample name value = name ++ codes " " ++ value ++ codes "\n"
+
+-- a metric of one sample
+unfoldable pub metric : List ℕ → List ℕ → List ℕ → ℕ → List ℕ
+metric kind name help value = heading kind name help ++ sample name (decimal value)
+
+unfoldable pub requests_metric : Replies → List ℕ
+requests_metric replies =
+    heading (codes "counter") (codes "docs_requests_total") (codes "Requests that were answered, by the class of the code.")
+    ++ sample (codes "docs_requests_total{class=\"2xx\"}") (decimal replies.successful)
+    ++ sample (codes "docs_requests_total{class=\"3xx\"}") (decimal replies.redirected)
+    ++ sample (codes "docs_requests_total{class=\"4xx\"}") (decimal replies.refused)
+    ++ sample (codes "docs_requests_total{class=\"5xx\"}") (decimal replies.failed)
+
+unfoldable pub reply_metrics : Counters → List ℕ
+reply_metrics counters =
+    metric (codes "counter") (codes "docs_unauthorized_total") (codes "Requests that were answered 401.") counters.unauthorized
+    ++ metric (codes "counter") (codes "docs_bytes_total") (codes "Bytes of replies.") counters.bytes
+
+unfoldable pub connection_metrics : Counters → List ℕ
+connection_metrics counters =
+    metric (codes "gauge") (codes "docs_connections") (codes "Connections that stand.") counters.connections
+    ++ metric (codes "gauge") (codes "docs_connections_most") (codes "Connections that stood at once at most.") counters.connections_most
+
+-- in seconds, as a number with an exponent
+unfoldable pub turn_metric : ℕ → List ℕ
+turn_metric micros =
+    heading (codes "gauge") (codes "docs_turn_seconds_max") (codes "Seconds of the longest turn since the last look.")
+    ++ (codes "docs_turn_seconds_max " ++ decimal micros ++ codes "e-6\n")
+
+unfoldable pub metrics_text : Counters → List ℕ
+metrics_text counters =
+    requests_metric counters.replies ++ reply_metrics counters ++ connection_metrics counters ++ turn_metric counters.turn_micros_most

@@ -1,0 +1,11 @@
+//! A door of its own for those who run the server: whether it turns, and counters for Prometheus. A reply there is a function of the request
+//! line and of counters: there is no page, no reader and no token in it.
+#![tactic(auto)]
+
+pub mod counters;
+pub mod cut;
+pub mod door;
+mod head;
+mod metrics;
+pub mod replies;
+mod request_line;
