@@ -20,6 +20,7 @@ const PIECE: usize = 1_024;
 const LINE_LIMIT: usize = 1_026;
 
 /// A connection is over.
+#[derive(Drop)]
 struct Over;
 
 /// A connection on which one request is answered.
