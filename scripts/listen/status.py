@@ -17,18 +17,22 @@ LARGE = '[[page]]\npath = "large.md"\ntext = "' + "word " * 40_000 + '"\n'
 
 def ask(port, data, seconds=10):
     """What comes back for these bytes, until the end."""
+    found = b""
     with socket.create_connection((HOST, port), timeout=seconds) as peer:
-        peer.sendall(data)
-        found = b""
-        while got := peer.recv(65_536):
-            found += got
-        return found
+        try:
+            peer.sendall(data)
+            while got := peer.recv(65_536):
+                found += got
+        except ConnectionError:
+            # it was closed before all was read there
+            pass
+    return found
 
 
 def get(port, target, method="GET"):
-    """The reply to a request: its code, its head and its body."""
+    """The reply to a request: its code, 0 where there is none, its head and its body."""
     head, _, body = ask(port, f"{method} {target} HTTP/1.1\r\nHost: monitor\r\n\r\n".encode()).partition(b"\r\n\r\n")
-    return int(head[9:12]), head.decode(), body
+    return int(head[9:12] or 0), head.decode(), body
 
 
 class Watched:
@@ -84,7 +88,7 @@ def counters():
     """What is counted is what clients were answered."""
     site = Watched(["--log"])
     before = site.counted()
-    scene.check("nothing yet", set(before.values()) - {before[("docs_turn_seconds_max",)]} == {0}, before)
+    scene.check("nothing yet", not any(value for name, value in before.items() if name != ("docs_turn_seconds_max",)), before)
     clients = [Client(site.server.port, token) for token in ("tok", "tok", "wrong")]
     sent = [0, 0]
     for client, target, method in ((clients[0], "/page/secret-plan.md", "GET"), (clients[0], "/page/none.md", "GET"),

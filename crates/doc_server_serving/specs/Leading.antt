@@ -22,10 +22,10 @@ IsOfServer answered (events.Reader (reader_edits.All readers)) = answered (Some 
 IsOfServer answered event = IsOfPeers event
 
 -- a run of such events alone leads from one world to the other
-pub record LeadsBy (own : Event → Type 0) (render : Renders) (w v : World) : Type 0 where
+pub record LeadsBy (Own : Event → Type 0) (render : Renders) (w v : World) : Type 0 where
   pub run : List Happened
   pub runs : Runs render w run v
-  pub own : All (λ h. own h.event) run
+  pub own : All (λ h. Own h.event) run
 
 abbrev pub Leads : Renders → World → World → Type 0
 Leads render w v = LeadsBy IsOfPeers render w v
