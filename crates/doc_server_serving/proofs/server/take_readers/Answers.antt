@@ -1,5 +1,5 @@
 use Rattle.std.proofs.Common.{refl}
-use Rattle.std.specs.Prelude.{Ok, Some}
+use Rattle.std.specs.Prelude.{None, Ok, Some}
 use Rattle.doc_hub_events.specs.declared.event.Event.TheVariants as events
 use Rattle.doc_hub_events.specs.declared.event.ReaderEdit.TheVariants as reader_edits
 use Rattle.doc_server_serving.specs.Leading.{IsOfServer}
@@ -26,7 +26,7 @@ returns-clause-site g c =
     c.set_readers.ensures.world
 
 pub returns-in_default-clause-takes : goal.returns-in_default-clause-takes
-returns-in_default-clause-takes g c = (c.hear.result, c.hear.ensures.answers, refl)
+returns-in_default-clause-takes g c = (None, c.in_default.ensures.answers, refl)
 
 pub returns-clause-takes : goal.returns-clause-takes
 returns-clause-takes g c = (

@@ -208,7 +208,8 @@ returns-then-branch-clause-any_moment g c =
 pub returns-clause-any_moment : goal.returns-clause-any_moment
 returns-clause-any_moment g c = (
   c.turns.invariant.goes.leads,
-  served g.R.Renderer.page g.N.Network.came g.N.Network.gone g.N.Network.wakes g.N.Network.is_free c.args.saved.now.hub
+  served g.R.Renderer.page g.N.Network.came g.N.Network.gone g.N.Network.wakes g.N.Network.is_free
+      (IsOfServer (g.S.Source.answered c.turns.source)) c.args.saved.now.hub
       c.turns.saved.hub c.args.net.now c.turns.net c.args.self.now.peers c.turns.self.peers c.requires.new c.turns.invariant.goes,
   c.turns.invariant.crashes,
 )
