@@ -34,9 +34,13 @@ LOCAL = ("localhost:0", "localhost:65535", "localhost:000080")
 NO_ADDRESSES = ("", HOST, ":80", f"{HOST}:", f"{HOST}:65536", f"{HOST}:+1", "256.0.0.1:80", "::1:80", f" {HOST}:80", f"{HOST}:80 ",
                 "localhost", "localhost:", "localhost:65536", "localhost:+1", "localhost:-1", "localhost: 1", "localhost:80x",
                 "Localhost:80", "localhost.:80", "localhost4:80", "local:80", "xlocalhost:80", "--log", "--journal")
-# the words behind CONFIG and ADDR that `listen` takes, and those behind CONFIG that the others do; FILE is any word
-GOOD = {"listen": ([], ["--log"], ["--journal", None], ["--journal", None, "--log"], ["--log", "--journal", None],
-                   ["--log=json"], ["--journal", None, "--log=json"], ["--log=json", "--journal", None]),
+# what stands behind `--status`; FILE, which is any word, is None
+MONITORS = object()
+# the options of `listen`, each in all its forms
+LISTEN = ((["--journal", None],), (["--log"], ["--log=json"]), (["--status", MONITORS],))
+# the words behind CONFIG and ADDR that `listen` takes, which are some of its options in any order, and those behind CONFIG that the others do
+GOOD = {"listen": [sum(forms, []) for count in range(len(LISTEN) + 1) for order in itertools.permutations(LISTEN, count)
+                   for forms in itertools.product(*order)],
         "lint": ([], ["--journal", None]), "compact": (["--journal", None],)}
 FRONTS = {"listen": [NOWHERE, f"{HOST}:0"], "lint": [NOWHERE], "compact": [NOWHERE]}
 
@@ -60,22 +64,30 @@ def stops(words, *lines):
 
 # ---- what is wanted of options
 
+def fits(word, it):
+    """Whether a word may stand for one of a good line."""
+    return word in ADDRESSES + LOCAL if it is MONITORS else it in (None, word)
+
+
 def begins(words, good):
     """Whether a good line begins with these words."""
-    return len(words) <= len(good) and all(it in (None, word) for word, it in zip(words, good))
+    return len(words) <= len(good) and all(map(fits, words, good))
 
 
 def wrong(command, words):
     """What is told of the words behind a command's other words: nothing where they are good, `usage` alone where an option is lacking."""
     for count, word in enumerate(words, 1):
         if not any(begins(words[:count], good) for good in GOOD[command]):
+            # the word stands where an address does
+            if any(MONITORS in good[count - 1:count] and begins(words[:count - 1], good) for good in GOOD[command]):
+                return ADDR, "usage"
             # an option of the command, since some good line begins with it
             known = any(word in good[:1] for good in GOOD[command])
             # the log's two forms are one option
             return (f"{word.removesuffix('=json')} stands twice" if known else f"unknown option: {word}", "usage")
     if any(len(words) == len(good) and begins(words, good) for good in GOOD[command]):
         return ()
-    return (f"{words[-1]} needs a file", "usage") if words else ("usage",)
+    return (f"{words[-1]} needs {'an address' if words[-1] == '--status' else 'a file'}", "usage") if words else ("usage",)
 
 
 # ---- the lines
@@ -97,20 +109,29 @@ def numbers_and_addresses():
     for address in ADDRESSES:
         stops(["serve", NOWHERE, address, "1", "1"], UNDERSTOOD)
         stops(["listen", NOWHERE, address], UNDERSTOOD)
+        stops(["listen", NOWHERE, f"{HOST}:0", "--status", address], UNDERSTOOD)
     for address in LOCAL:
         stops(["serve", NOWHERE, address, "1", "1"], "usage")
         stops(["listen", NOWHERE, address], UNDERSTOOD)
+        stops(["listen", NOWHERE, f"{HOST}:0", "--status", address], UNDERSTOOD)
     for address in NO_ADDRESSES:
         stops(["serve", NOWHERE, address, "1", "1"], "usage")
-        for options in ([], ["--log"], ["--log", "--log"], ["x"], ["--journal"]):
+        for options in ([], ["--log"], ["--log", "--log"], ["x"], ["--journal"], ["--status"]):
             stops(["listen", NOWHERE, address, *options], ADDR, "usage")
+        for options in ([], ["--log"], ["x"], ["--status"]):
+            stops(["listen", NOWHERE, f"{HOST}:0", "--status", address, *options], ADDR, "usage")
 
 
 def options():
-    """Each line of up to four words, and some of five."""
+    """Each line of up to four words of either five, and some of more."""
     words = ("--journal", "--log", "--log=json", "j", "--Log")
-    lines = [line for count in range(5) for line in itertools.product(words, repeat=count)]
-    lines += [("--log", "--journal", "j", last, "x") for last in words]
+    others = ("--journal", "--log", "--status", LOCAL[0], "j")
+    lines = list(dict.fromkeys(line for five in (words, others) for count in range(5) for line in itertools.product(five, repeat=count)))
+    lines += [("--log", "--journal", "j", last, "x") for last in (*words, *others)]
+    # each order of the three options, alone, and with one of them behind it a second time
+    lines += [tuple("j" if it is None else LOCAL[0] if it is MONITORS else it for it in good) + more
+              for good in GOOD["listen"] if len(good) == 5 for more in ((), ("--journal",), ("--log",), ("--log=json",), ("--status", "x"))]
+    lines += [("--status=",), (f"--status={LOCAL[0]}",), ("--Status", LOCAL[0]), ("--status", LOCAL[0], LOCAL[0])]
     lines += [("--log=",), ("--log=text",), ("--log=JSON",), ("--log", "json"), ("--journal=j",), ("-log",), ("--",), ("-",)]
     for command, front in FRONTS.items():
         for line in map(list, lines):

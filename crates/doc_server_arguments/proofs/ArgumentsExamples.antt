@@ -12,7 +12,7 @@ use Rattle.doc_server_arguments.specs.declared.log_form.LogForm.TheVariants.{Pla
 use Rattle.doc_server_arguments.specs.Addresses.{address_of, listen_address_of, v4_of, v6_of}
 use Rattle.doc_server_arguments.specs.Commands.{Asked, command_in, Demo, Render, Examples, Check, Replay, Serve, Listen, Compact, Folders, Lint, Token, TokenHash, Version, Help}
 use Rattle.doc_server_arguments.specs.ShownWords.{shown_word}
-use Rattle.doc_server_arguments.specs.Usage.{NoCommand, NoAddress, UnknownOption, StandsTwice, NeedsFile, NeedsGroups, usage_text}
+use Rattle.doc_server_arguments.specs.Usage.{NoCommand, NoAddress, UnknownOption, StandsTwice, NeedsFile, NeedsAddress, NeedsGroups, usage_text}
 use Rattle.doc_server_arguments.specs.Versions.{version_lines}
 
 -- ---- addresses
@@ -133,7 +133,11 @@ abbrev listen_with : List (List ℕ) → List (List ℕ)
 listen_with options = codes "listen" ∷ codes "site.toml" ∷ codes "localhost:80" ∷ options
 
 abbrev listening : Option (List ℕ) → Option LogForm → Asked
-listening journal log = Listen (codes "site.toml") (codes "localhost:80") (local 80) journal log
+listening journal log = Listen (codes "site.toml") (codes "localhost:80") (local 80) journal log None
+
+-- the same, with monitors at port 9 of 127.0.0.1
+abbrev watched : Option (List ℕ) → Option LogForm → Asked
+watched journal log = Listen (codes "site.toml") (codes "localhost:80") (local 80) journal log (Some (local 9))
 
 listen : command_in (listen_with []) ≡ Ok (listening None None)
 unfolding address_of read_socket_v4 read_ipv4 read_octet read_number read_port
@@ -202,6 +206,95 @@ unknown_first : command_in (listen_with (codes "what" ∷ codes "--log" ∷ code
 unfolding address_of read_socket_v4 read_ipv4 read_octet read_number read_port
 unknown_first = refl
 
+listen_with_status : command_in (listen_with (codes "--status" ∷ codes "127.0.0.1:9" ∷ [])) ≡ Ok (watched None None)
+unfolding address_of read_socket_v4 read_ipv4 read_octet read_number read_port
+listen_with_status = refl
+
+-- its address is read as that of the site
+status_at_localhost : command_in (listen_with (codes "--status" ∷ codes "localhost:9" ∷ [])) ≡ Ok (watched None None)
+unfolding address_of read_socket_v4 read_ipv4 read_octet read_number read_port
+status_at_localhost = refl
+
+-- in each order
+journal_log_status : command_in (listen_with (codes "--journal" ∷ codes "j" ∷ codes "--log" ∷ codes "--status" ∷ codes "127.0.0.1:9" ∷ []))
+    ≡ Ok (watched (Some (codes "j")) (Some Plain))
+unfolding address_of read_socket_v4 read_ipv4 read_octet read_number read_port
+journal_log_status = refl
+
+journal_status_log : command_in (listen_with (codes "--journal" ∷ codes "j" ∷ codes "--status" ∷ codes "127.0.0.1:9" ∷ codes "--log" ∷ []))
+    ≡ Ok (watched (Some (codes "j")) (Some Plain))
+unfolding address_of read_socket_v4 read_ipv4 read_octet read_number read_port
+journal_status_log = refl
+
+log_journal_status : command_in (listen_with (codes "--log" ∷ codes "--journal" ∷ codes "j" ∷ codes "--status" ∷ codes "127.0.0.1:9" ∷ []))
+    ≡ Ok (watched (Some (codes "j")) (Some Plain))
+unfolding address_of read_socket_v4 read_ipv4 read_octet read_number read_port
+log_journal_status = refl
+
+log_status_journal : command_in (listen_with (codes "--log" ∷ codes "--status" ∷ codes "127.0.0.1:9" ∷ codes "--journal" ∷ codes "j" ∷ []))
+    ≡ Ok (watched (Some (codes "j")) (Some Plain))
+unfolding address_of read_socket_v4 read_ipv4 read_octet read_number read_port
+log_status_journal = refl
+
+status_journal_log : command_in (listen_with (codes "--status" ∷ codes "127.0.0.1:9" ∷ codes "--journal" ∷ codes "j" ∷ codes "--log" ∷ []))
+    ≡ Ok (watched (Some (codes "j")) (Some Plain))
+unfolding address_of read_socket_v4 read_ipv4 read_octet read_number read_port
+status_journal_log = refl
+
+status_log_journal : command_in (listen_with (codes "--status" ∷ codes "127.0.0.1:9" ∷ codes "--log" ∷ codes "--journal" ∷ codes "j" ∷ []))
+    ≡ Ok (watched (Some (codes "j")) (Some Plain))
+unfolding address_of read_socket_v4 read_ipv4 read_octet read_number read_port
+status_log_journal = refl
+
+status_before_json : command_in (listen_with (codes "--status" ∷ codes "127.0.0.1:9" ∷ codes "--log=json" ∷ []))
+    ≡ Ok (watched None (Some Json))
+unfolding address_of read_socket_v4 read_ipv4 read_octet read_number read_port
+status_before_json = refl
+
+status_behind_json : command_in (listen_with (codes "--log=json" ∷ codes "--status" ∷ codes "127.0.0.1:9" ∷ []))
+    ≡ Ok (watched None (Some Json))
+unfolding address_of read_socket_v4 read_ipv4 read_octet read_number read_port
+status_behind_json = refl
+
+journal_named_status : command_in (listen_with (codes "--journal" ∷ codes "--status" ∷ [])) ≡ Ok (listening (Some (codes "--status")) None)
+unfolding address_of read_socket_v4 read_ipv4 read_octet read_number read_port
+journal_named_status = refl
+
+status_twice : command_in (listen_with (codes "--status" ∷ codes "127.0.0.1:9" ∷ codes "--log" ∷ codes "--status" ∷ codes "127.0.0.1:9" ∷ []))
+    ≡ Err (StandsTwice (codes "--status"))
+unfolding address_of read_socket_v4 read_ipv4 read_octet read_number read_port
+status_twice = refl
+
+-- that it stands twice is said before what stands behind it is looked at
+status_twice_without_address : command_in (listen_with (codes "--status" ∷ codes "127.0.0.1:9" ∷ codes "--status" ∷ []))
+    ≡ Err (StandsTwice (codes "--status"))
+unfolding address_of read_socket_v4 read_ipv4 read_octet read_number read_port
+status_twice_without_address = refl
+
+status_twice_and_bad : command_in (listen_with (codes "--status" ∷ codes "127.0.0.1:9" ∷ codes "--status" ∷ codes "x" ∷ []))
+    ≡ Err (StandsTwice (codes "--status"))
+unfolding address_of read_socket_v4 read_ipv4 read_octet read_number read_port
+status_twice_and_bad = refl
+
+status_without_address : command_in (listen_with (codes "--journal" ∷ codes "j" ∷ codes "--status" ∷ []))
+    ≡ Err (NeedsAddress (codes "--status"))
+unfolding address_of read_socket_v4 read_ipv4 read_octet read_number read_port
+status_without_address = refl
+
+status_at_no_address : command_in (listen_with (codes "--status" ∷ codes "x" ∷ codes "--log" ∷ codes "--log" ∷ [])) ≡ Err NoAddress
+unfolding address_of read_socket_v4 read_socket_v6 read_ipv4 read_octet read_number read_port
+status_at_no_address = refl
+
+-- what stands behind `--status` is its address
+status_at_an_option : command_in (listen_with (codes "--status" ∷ codes "--log" ∷ [])) ≡ Err NoAddress
+unfolding address_of read_socket_v4 read_socket_v6 read_ipv4 read_octet read_number read_port
+status_at_an_option = refl
+
+status_behind_another_fault : command_in (listen_with (codes "--log" ∷ codes "--log" ∷ codes "--status" ∷ codes "x" ∷ []))
+    ≡ Err (StandsTwice (codes "--log"))
+unfolding address_of read_socket_v4 read_ipv4 read_octet read_number read_port
+status_behind_another_fault = refl
+
 -- the address stands before the options
 address_before_options : command_in (codes "listen" ∷ codes "site.toml" ∷ codes "--log" ∷ codes "what" ∷ []) ≡ Err NoAddress
 unfolding address_of read_socket_v4 read_socket_v6 read_ipv4 read_octet read_number
@@ -226,6 +319,10 @@ compact_with_log = refl
 compact_with_json : command_in (codes "compact" ∷ codes "site.toml" ∷ codes "--log=json" ∷ []) ≡ Err (UnknownOption (codes "--log=json"))
 compact_with_json = refl
 
+compact_with_status : command_in (codes "compact" ∷ codes "site.toml" ∷ codes "--status" ∷ codes "127.0.0.1:9" ∷ [])
+    ≡ Err (UnknownOption (codes "--status"))
+compact_with_status = refl
+
 compact_and_more : command_in (codes "compact" ∷ codes "site.toml" ∷ codes "--journal" ∷ codes "j" ∷ codes "x" ∷ [])
     ≡ Err (UnknownOption (codes "x"))
 compact_and_more = refl
@@ -239,6 +336,10 @@ lint_with_journal = refl
 
 lint_of_none : command_in (codes "lint" ∷ []) ≡ Err NoCommand
 lint_of_none = refl
+
+lint_with_status : command_in (codes "lint" ∷ codes "site.toml" ∷ codes "--journal" ∷ codes "j" ∷ codes "--status" ∷ [])
+    ≡ Err (UnknownOption (codes "--status"))
+lint_with_status = refl
 
 lint_without_file : command_in (codes "lint" ∷ codes "site.toml" ∷ codes "--journal" ∷ []) ≡ Err (NeedsFile (codes "--journal"))
 lint_without_file = refl
@@ -295,6 +396,10 @@ usage = refl
 no_file_told : usage_text (NeedsFile (codes "--journal")) ≡ codes "--journal needs a file\ndocs_server: usage"
 unfolding percent_encode should_percent_encode
 no_file_told = refl
+
+no_address_told : usage_text (NeedsAddress (codes "--status")) ≡ codes "--status needs an address\ndocs_server: usage"
+unfolding percent_encode should_percent_encode
+no_address_told = refl
 
 -- an escape, a space, DEL and an accented letter stand by their numbers
 word_told : shown_word (27 ∷ codes "[31m a" ++ 127 ∷ 195 ∷ 169 ∷ []) ≡ codes "%1B[31m%20a%7F%C3%A9"

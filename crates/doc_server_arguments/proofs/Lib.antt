@@ -5,3 +5,4 @@ mod GivenLaws
 mod OptionLaws
 mod Ports
 mod Reading
+mod TakenLaws

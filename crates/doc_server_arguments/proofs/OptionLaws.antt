@@ -1,207 +1,244 @@
 -- Options taken one after the other are what all of them say.
-use Rattle.std.proofs.Common.{◌≡◌, ℕ, List, [], ◌∷◌, ◌++◌, Bool, true, false, not, ◌||◌, ◌&&◌, ◌⊎◌, inl, inr, cond, Option, Some, None, is_some, is_none, Ok, Err}
-use Rattle.std.proofs.Common.{refl, sym, ap, ◌∙◌, append-nil, append_assoc, bytes_eq}
-use Rattle.std.specs.Prelude.{find, option_and_then, option_map, if◌then◌else◌}
+use Rattle.std.proofs.Common.{◌≡◌, ℕ, List, [], ◌∷◌, ◌++◌, Bool, true, false, not, ◌||◌, Option, Some, None, is_some, is_none, Ok, Err}
+use Rattle.std.proofs.Common.{refl, sym, ap, ◌∙◌, subst, append-nil, append_assoc, bytes_eq}
+use Rattle.std.specs.Prelude.{Result, option_and_then, if◌then◌else◌}
 use Rattle.std.specs.List.{list_any, list_all}
 use Rattle.std.specs.Option.{option_or}
+use Rattle.std.specs.declared.net.socket_addr.SocketAddr.{SocketAddr}
 use Rattle.std.proofs.lemmas.List.Folds.{list_all-append}
 use Rattle.std.proofs.lemmas.Slice.Eq.{bytes_eq-Decides}
 use Rattle.doc_page_parts.proofs.Bools.{and_first, and_second}
 use Rattle.doc_server_arguments.specs.declared.log_form.LogForm.{LogForm}
 use Rattle.doc_server_arguments.specs.declared.options.Known.{Known}
 use Rattle.doc_server_arguments.specs.declared.options.Known.TheVariants.{All, Journal}
-use Rattle.doc_server_arguments.specs.Options.{Stated, file_among, first_wrong, form_of, journal_word, json_word, log_among, log_word, names_of, option_of, options_in, said_by, said_unless, stands, stated, takes_file, wrong_behind}
-use Rattle.doc_server_arguments.specs.OptionSteps.{journal_taken, log_taken, onward, taken_all, taken_one}
-use Rattle.doc_server_arguments.specs.Usage.{Wrong, UnknownOption, StandsTwice, NeedsFile}
+use Rattle.doc_server_arguments.specs.Addresses.{listen_address_of}
+use Rattle.doc_server_arguments.specs.Options.{Said, Stated, first_said, first_wrong, form_of, journal_in, journal_word, json_word, log_in, log_word, names_of, option_of, options_in, said_by, said_unless, stands, stated, status_in, status_word, wrong_address, wrong_behind, wrong_file, wrong_value}
+use Rattle.doc_server_arguments.specs.OptionSteps.{journal_taken, log_taken, onward, status_at, status_taken, taken_all, taken_one}
+use Rattle.doc_server_arguments.specs.Usage.{Wrong, NoAddress, UnknownOption, StandsTwice}
 
--- each option that takes a file has one
-abbrev whole : List Stated → Bool
-whole options = list_all (λ option. not (takes_file option.word) || is_some option.file) options
+-- ---- what is said first
 
-abbrev is_journal : Stated → Bool
-is_journal option = takes_file option.word
-
-abbrev file_found : Option Stated → Option (List ℕ)
-file_found found = option_and_then (λ option. option.file) found
-
-first_given : (b s : Bool) (first : Stated) (found : Option Stated) → (not b || is_some first.file) ≡ true → is_some (file_found found) ≡ s
-    → is_some (file_found (cond b (Some first) found)) ≡ (b || s)
-first_given true s first found has rest = has
-first_given false s first found has rest = rest
-
--- the option of the journal has one word
-named_journal : (word : List ℕ) → bytes_eq (option_of word) journal_word ≡ takes_file word
-named_journal word = by (bytes_eq word json_word) refl
-  where
-    by : (b : Bool) → bytes_eq word json_word ≡ b → bytes_eq (if b then log_word else word) journal_word ≡ takes_file word
-    by true e = sym (ap takes_file ((bytes_eq-Decides word json_word).0 e))
-    by false e = refl
-
--- a journal stands among options where one of them has its file
-journal_given : (options : List Stated) → whole options ≡ true → is_some (file_among journal_word options) ≡ stands journal_word options
-journal_given [] h = refl
-journal_given (first ∷ rest) h =
-    first_given (takes_file first.word) (stands journal_word rest) first (find is_journal rest)
-    (and_first (not (takes_file first.word) || is_some first.file) (whole rest) h)
-    (journal_given rest (and_second (not (takes_file first.word) || is_some first.file) (whole rest) h))
-    ∙ ap (λ b. b || stands journal_word rest) (sym (named_journal first.word))
-
-some_or : {A : Type 0} (o more : Option A) → is_some o ≡ true → o ≡ option_or o more
-some_or None more h = absurd (cc)
-some_or (Some x) more h = refl
-
-found_first : (b : Bool) (first : Stated) (longer found : Option Stated) (more : Option (List ℕ)) → (not b || is_some first.file) ≡ true
-    → file_found longer ≡ option_or (file_found found) more
-    → file_found (cond b (Some first) longer) ≡ option_or (file_found (cond b (Some first) found)) more
-found_first true first longer found more has rest = some_or first.file more has
-found_first false first longer found more has rest = rest
-
-found_alone : (b : Bool) (option : Stated) → file_found (cond b (Some option) None) ≡ (if b then option.file else None)
-found_alone true option = refl
-found_alone false option = refl
-
--- the file of one option more
-file_more : (before : List Stated) (option : Stated) → whole before ≡ true
-    → file_among journal_word (before ++ option ∷ [])
-    ≡ option_or (file_among journal_word before) (if takes_file option.word then option.file else None)
-file_more [] option h = found_alone (takes_file option.word) option
-file_more (first ∷ before) option h =
-    found_first (takes_file first.word) first (find is_journal (before ++ option ∷ [])) (find is_journal before) _
-    (and_first (not (takes_file first.word) || is_some first.file) (whole before) h)
-    (file_more before option (and_second (not (takes_file first.word) || is_some first.file) (whole before) h))
-
-either : (t l j : Bool) → t ≡ false → (t || (l || (j || false))) ≡ true → (l ≡ true) ⊎ (j ≡ true)
-either true l j isnt is = absurd (cc)
-either false true j isnt is = inl refl
-either false false true isnt is = inr refl
-either false false false isnt is = absurd (cc)
-
-neither : (t : Bool) → t ≡ false → (t || false) ≡ true → ⊥
-neither true isnt is = absurd (cc)
-neither false isnt is = absurd (cc)
-
-log_by : (word : List ℕ) → (bytes_eq word log_word ≡ true) ⊎ (bytes_eq word json_word ≡ true) → option_of word ≡ log_word
-log_by word (inl is) = ap option_of ((bytes_eq-Decides word log_word).0 is)
-log_by word (inr is) = ap option_of ((bytes_eq-Decides word json_word).0 is)
-
--- an option that a command has is one of two
-log_named : (known : Known) (word : List ℕ) → takes_file word ≡ false → list_any (bytes_eq word) (names_of known) ≡ true
-    → option_of word ≡ log_word
-log_named All word isnt is = log_by word (either (takes_file word) (bytes_eq word log_word) (bytes_eq word json_word) isnt is)
-log_named Journal word isnt is = absurd (neither (takes_file word) isnt is)
-
--- whether the option of the log is asked for
-abbrev is_log : Stated → Bool
-is_log option = bytes_eq (option_of option.word) log_word
-
-abbrev form_found : Option Stated → Option LogForm
-form_found found = option_map (λ option. form_of option.word) found
-
-form_first : (b s : Bool) (first : Stated) (found : Option Stated) → is_some (form_found found) ≡ s
-    → is_some (form_found (cond b (Some first) found)) ≡ (b || s)
-form_first true s first found rest = refl
-form_first false s first found rest = rest
-
--- the log stands among options where one of them has its form
-log_given : (options : List Stated) → is_some (log_among options) ≡ stands log_word options
-log_given [] = refl
-log_given (first ∷ rest) = form_first (is_log first) (stands log_word rest) first (find is_log rest) (log_given rest)
-
-form_more : (b : Bool) (first : Stated) (longer found : Option Stated) (more : Option LogForm)
-    → form_found longer ≡ option_or (form_found found) more
-    → form_found (cond b (Some first) longer) ≡ option_or (form_found (cond b (Some first) found)) more
-form_more true first longer found more rest = refl
-form_more false first longer found more rest = rest
-
-form_alone : (b : Bool) (option : Stated) → form_found (cond b (Some option) None) ≡ (if b then Some (form_of option.word) else None)
-form_alone true option = refl
-form_alone false option = refl
-
--- the form of the log with one option more
-log_more : (before : List Stated) (option : Stated)
-    → log_among (before ++ option ∷ []) ≡ option_or (log_among before) (if is_log option then Some (form_of option.word) else None)
-log_more [] option = form_alone (is_log option) option
-log_more (first ∷ before) option =
-    form_more (is_log first) first (find is_log (before ++ option ∷ [])) (find is_log before) _ (log_more before option)
-
--- what one option more says, over the facts that it rests on
-one_by : (K T S : Bool) (word name : List ℕ) (file J J' : Option (List ℕ)) (form : LogForm) (L L' : Option LogForm)
-    → (T ≡ true → (is_some J ≡ S) × (name ≡ word) × (J' ≡ option_or J file) × (L' ≡ L))
-    → (K ≡ true → T ≡ false → (is_some L ≡ S) × (name ≡ log_word) × (J' ≡ J) × (L' ≡ option_or L (Some form)))
-    → (if not K then Err (UnknownOption word)
-    else (if T then journal_taken (record { journal = J; log = L }) word J file
-    else log_taken (record { journal = J; log = L }) form L))
-    ≡ said_unless (if not K then Some (UnknownOption word)
-    else (if S then Some (StandsTwice name) else (if T && is_none file then Some (NeedsFile word) else None)))
-    (record { journal = J'; log = L' })
-one_by false T S word name file J J' form L L' t k = refl
-one_by true true S word name file (Some j) J' form L L' t k = rw (← (t refl).0, (t refl).1) refl
-one_by true true S word name None None J' form L L' t k = rw (← (t refl).0) refl
-one_by true true S word name (Some f) None J' form L L' t k = rw (← (t refl).0, (t refl).2, (t refl).3) refl
-one_by true false S word name file J J' form (Some l) L' t k = rw (← (k refl refl).0, (k refl refl).1) refl
-one_by true false S word name file J J' form None L' t k = rw (← (k refl refl).0, (k refl refl).2, (k refl refl).3) refl
-
-none_more : {A : Type 0} (o : Option A) → option_or o None ≡ o
+none_more : {X : Type 0} (o : Option X) → option_or o None ≡ o
 none_more None = refl
 none_more (Some x) = refl
 
-of_journal : (before : List Stated) (option : Stated) → whole before ≡ true → takes_file option.word ≡ true
-    → (is_some (file_among journal_word before) ≡ stands (option_of option.word) before)
-    × (option_of option.word ≡ option.word)
-    × (file_among journal_word (before ++ option ∷ []) ≡ option_or (file_among journal_word before) option.file)
-    × (log_among (before ++ option ∷ []) ≡ log_among before)
-of_journal before option h takes =
-    let is : option.word ≡ journal_word = (bytes_eq-Decides option.word journal_word).0 takes in (
-      journal_given before h ∙ ap (λ word. stands (option_of word) before) (sym is),
-      ap option_of is ∙ sym is,
-      file_more before option h ∙ ap (λ b. option_or (file_among journal_word before) (if b then option.file else None)) takes,
-      log_more before option
-          ∙ ap (λ word. option_or (log_among before) (if bytes_eq (option_of word) log_word then Some (form_of word) else None)) is
-          ∙ none_more (log_among before),
-    )
+or_or : {X : Type 0} (a b c : Option X) → option_or a (option_or b c) ≡ option_or (option_or a b) c
+or_or None b c = refl
+or_or (Some x) b c = refl
 
-of_log : (known : Known) (before : List Stated) (option : Stated) → whole before ≡ true
-    → list_any (bytes_eq option.word) (names_of known) ≡ true
-    → takes_file option.word ≡ false
-    → (is_some (log_among before) ≡ stands (option_of option.word) before)
-    × (option_of option.word ≡ log_word)
-    × (file_among journal_word (before ++ option ∷ []) ≡ file_among journal_word before)
-    × (log_among (before ++ option ∷ []) ≡ option_or (log_among before) (Some (form_of option.word)))
-of_log known before option h has takes =
-    let is : option_of option.word ≡ log_word = log_named known option.word takes has in
-    let same : is_log option ≡ true = ap (λ name. bytes_eq name log_word) is in (
-      log_given before ∙ ap (λ name. stands name before) (sym is),
-      is,
-      file_more before option h ∙ ap (λ b. option_or (file_among journal_word before) (if b then option.file else None)) takes
-          ∙ none_more (file_among journal_word before),
-      log_more before option
-          ∙ ap (λ b. option_or (log_among before) (if b then Some (form_of option.word) else None)) same,
-    )
+some_or : {X : Type 0} (a b : Option X) → is_some (option_or a b) ≡ (is_some a || is_some b)
+some_or None b = refl
+some_or (Some x) b = refl
+
+-- what is said first with one option more
+first_more : {X : Type 0} (said_in : Stated → Option X) (before : List Stated) (option : Stated)
+    → first_said said_in (before ++ option ∷ []) ≡ option_or (first_said said_in before) (said_in option)
+first_more said_in [] option = none_more (said_in option)
+first_more said_in (first ∷ before) option =
+    ap (option_or (said_in first)) (first_more said_in before option) ∙ or_or (said_in first) (first_said said_in before) (said_in option)
+
+-- nothing is wrong with the value of each option
+abbrev whole : List Stated → Bool
+whole options = list_all (λ option. is_none (wrong_value option)) options
+
+-- something is said by options where one of them is the option that says it
+abbrev Says : {X : Type 0} → (Stated → Option X) → List ℕ → Type 0
+Says said_in name = (word : List ℕ) (value : Option (List ℕ)) → is_none (wrong_value (record { word = word; value = value })) ≡ true
+    → is_some (said_in (record { word = word; value = value })) ≡ bytes_eq (option_of word) name
+
+first_given : {X : Type 0} (said_in : Stated → Option X) (name : List ℕ) → Says said_in name → (options : List Stated) → whole options ≡ true
+    → is_some (first_said said_in options) ≡ stands name options
+first_given said_in name says [] h = refl
+first_given said_in name says (first ∷ rest) h =
+    some_or (said_in first) (first_said said_in rest)
+    ∙ ap (λ b. b || is_some (first_said said_in rest)) (says first.word first.value (and_first (is_none (wrong_value first)) (whole rest) h))
+    ∙ ap (λ b. bytes_eq (option_of first.word) name || b)
+    (first_given said_in name says rest (and_second (is_none (wrong_value first)) (whole rest) h))
+
+-- an option of one word is asked for by that alone
+of_one_word : (word name : List ℕ) → bytes_eq log_word name ≡ bytes_eq json_word name → bytes_eq word name ≡ bytes_eq (option_of word) name
+of_one_word word name neither = by (bytes_eq word json_word) refl
+  where
+    by : (b : Bool) → bytes_eq word json_word ≡ b → bytes_eq word name ≡ bytes_eq (if b then log_word else word) name
+    by true e = ap (λ w. bytes_eq w name) ((bytes_eq-Decides word json_word).0 e) ∙ sym neither
+    by false e = refl
+
+some_where : {X : Type 0} (b : Bool) (o : Option X) → (b ≡ true → is_some o ≡ true) → is_some (if b then o else None) ≡ b
+some_where true o there = there refl
+some_where false o there = refl
+
+file_there : (word : List ℕ) (value : Option (List ℕ)) → is_none (wrong_file word value) ≡ true → is_some value ≡ true
+file_there word None h = absurd (cc)
+file_there word (Some file) h = refl
+
+address_read : (o : Option SocketAddr) → is_none (if is_none o then Some NoAddress else None) ≡ true → is_some o ≡ true
+address_read None h = absurd (cc)
+address_read (Some address) h = refl
+
+address_there : (word : List ℕ) (value : Option (List ℕ)) → is_none (wrong_address word value) ≡ true
+    → is_some (option_and_then listen_address_of value) ≡ true
+address_there word None h = absurd (cc)
+address_there word (Some written) h = address_read (listen_address_of written) h
+
+-- the value of an option of this word
+value_right : (word name : List ℕ) (value : Option (List ℕ)) → is_none (wrong_value (record { word = word; value = value })) ≡ true
+    → bytes_eq word name ≡ true → is_none (wrong_value (record { word = name; value = value })) ≡ true
+value_right word name value h is =
+    subst (λ w. is_none (wrong_value (record { word = w; value = value })) ≡ true) ((bytes_eq-Decides word name).0 is) h
+
+journal_says : Says journal_in journal_word
+journal_says word value h =
+    some_where (bytes_eq word journal_word) value (λ is. file_there journal_word value (value_right word journal_word value h is))
+    ∙ of_one_word word journal_word refl
+
+log_says : Says log_in log_word
+log_says word value h = some_where (bytes_eq (option_of word) log_word) (Some (form_of word)) (λ is. refl)
+
+status_says : Says status_in status_word
+status_says word value h =
+    some_where (bytes_eq word status_word) (option_and_then listen_address_of value)
+    (λ is. address_there status_word value (value_right word status_word value h is))
+    ∙ of_one_word word status_word refl
+
+-- ---- one option more
+
+-- what is said with what an option says
+abbrev with : Said → Stated → Said
+with said option = record {
+  journal = option_or said.journal (journal_in option);
+  log = option_or said.log (log_in option);
+  status = option_or said.status (status_in option);
+}
+
+said_more : (before : List Stated) (option : Stated) → with (said_by before) option ≡ said_by (before ++ option ∷ [])
+said_more before option i = record {
+  journal = sym (first_more journal_in before option) i;
+  log = sym (first_more log_in before option) i;
+  status = sym (first_more status_in before option) i;
+}
+
+-- what one option of a command says, where none of it stands before or one does
+abbrev known_taken : Said → Stated → Result Said Wrong
+known_taken said option =
+    if bytes_eq option.word journal_word then journal_taken said option.word said.journal option.value
+    else (if bytes_eq option.word status_word then status_taken said option.word said.status option.value
+    else log_taken said (form_of option.word) said.log)
+
+abbrev known_wrong : Bool → Stated → Option Wrong
+known_wrong before option = if before then Some (StandsTwice (option_of option.word)) else wrong_value option
+
+abbrev TakesIt : List Stated → Option (List ℕ) → List ℕ → Type 0
+TakesIt before value word =
+    known_taken (said_by before) (record { word = word; value = value })
+    ≡ said_unless (known_wrong (stands (option_of word) before) (record { word = word; value = value }))
+    (with (said_by before) (record { word = word; value = value }))
+
+journal_one : (journal : Option (List ℕ)) (log : Option LogForm) (status : Option SocketAddr) (value : Option (List ℕ))
+    → journal_taken (record { journal = journal; log = log; status = status }) journal_word journal value
+    ≡ said_unless (if is_some journal then Some (StandsTwice journal_word) else wrong_file journal_word value)
+    (record { journal = option_or journal value; log = option_or log None; status = option_or status None })
+journal_one (Some before) log status value = refl
+journal_one None log status None = refl
+journal_one None log status (Some file) = rw (none_more log, none_more status) refl
+
+log_one : (form : LogForm) (journal : Option (List ℕ)) (log : Option LogForm) (status : Option SocketAddr)
+    → log_taken (record { journal = journal; log = log; status = status }) form log
+    ≡ said_unless (if is_some log then Some (StandsTwice log_word) else None)
+    (record { journal = option_or journal None; log = option_or log (Some form); status = option_or status None })
+log_one form journal (Some before) status = refl
+log_one form journal None status = rw (none_more journal, none_more status) refl
+
+status_read : (journal : Option (List ℕ)) (log : Option LogForm) (read : Option SocketAddr)
+    → status_at (record { journal = journal; log = log; status = None }) read
+    ≡ said_unless (if is_none read then Some NoAddress else None)
+    (record { journal = option_or journal None; log = option_or log None; status = read })
+status_read journal log None = refl
+status_read journal log (Some address) = rw (none_more journal, none_more log) refl
+
+status_one : (journal : Option (List ℕ)) (log : Option LogForm) (status : Option SocketAddr) (value : Option (List ℕ))
+    → status_taken (record { journal = journal; log = log; status = status }) status_word status value
+    ≡ said_unless (if is_some status then Some (StandsTwice status_word) else wrong_address status_word value) (record {
+      journal = option_or journal None;
+      log = option_or log None;
+      status = option_or status (option_and_then listen_address_of value);
+    })
+status_one journal log (Some before) value = refl
+status_one journal log None None = refl
+status_one journal log None (Some written) = status_read journal log (listen_address_of written)
+
+takes_journal : (before : List Stated) (value : Option (List ℕ)) → whole before ≡ true → TakesIt before value journal_word
+takes_journal before value h =
+    journal_one (first_said journal_in before) (first_said log_in before) (first_said status_in before) value
+    ∙ ap (λ b. said_unless (known_wrong b (record { word = journal_word; value = value }))
+    (with (said_by before) (record { word = journal_word; value = value }))) (first_given journal_in journal_word journal_says before h)
+
+takes_log : (before : List Stated) (value : Option (List ℕ)) → whole before ≡ true → TakesIt before value log_word
+takes_log before value h =
+    log_one (form_of log_word) (first_said journal_in before) (first_said log_in before) (first_said status_in before)
+    ∙ ap (λ b. said_unless (known_wrong b (record { word = log_word; value = value }))
+    (with (said_by before) (record { word = log_word; value = value }))) (first_given log_in log_word log_says before h)
+
+takes_json : (before : List Stated) (value : Option (List ℕ)) → whole before ≡ true → TakesIt before value json_word
+takes_json before value h =
+    log_one (form_of json_word) (first_said journal_in before) (first_said log_in before) (first_said status_in before)
+    ∙ ap (λ b. said_unless (known_wrong b (record { word = json_word; value = value }))
+    (with (said_by before) (record { word = json_word; value = value }))) (first_given log_in log_word log_says before h)
+
+takes_status : (before : List Stated) (value : Option (List ℕ)) → whole before ≡ true → TakesIt before value status_word
+takes_status before value h =
+    status_one (first_said journal_in before) (first_said log_in before) (first_said status_in before) value
+    ∙ ap (λ b. said_unless (known_wrong b (record { word = status_word; value = value }))
+    (with (said_by before) (record { word = status_word; value = value }))) (first_given status_in status_word status_says before h)
+
+-- what holds of each of some words
+abbrev Each : (List ℕ → Type 0) → List (List ℕ) → Type 0
+Each Holds [] = Unit {0}
+Each Holds (name ∷ names) = Holds name × Each Holds names
+
+one_of : (Holds : List ℕ → Type 0) (word : List ℕ) (names : List (List ℕ)) → Each Holds names → list_any (bytes_eq word) names ≡ true
+    → Holds word
+one_of Holds word [] each is = absurd (cc)
+one_of Holds word (name ∷ names) each is = by (bytes_eq word name) refl is (λ among. one_of Holds word names each.1 among)
+  where
+    by : (b : Bool) → bytes_eq word name ≡ b → (b || list_any (bytes_eq word) names) ≡ true
+        → (list_any (bytes_eq word) names ≡ true → Holds word) → Holds word
+    by true e some rest = subst Holds (sym ((bytes_eq-Decides word name).0 e)) each.0
+    by false e some rest = rest some
+
+takes_each : (known : Known) (before : List Stated) (value : Option (List ℕ)) → whole before ≡ true → Each (TakesIt before value) (names_of known)
+takes_each All before value h =
+    (takes_journal before value h, (takes_log before value h, (takes_json before value h, (takes_status before value h, tt))))
+takes_each Journal before value h = (takes_journal before value h, tt)
+
+if_known : (b : Bool) (word : List ℕ) (taken : Result Said Wrong) (wrong : Option Wrong) (said : Said)
+    → (b ≡ true → taken ≡ said_unless wrong said)
+    → (if not b then Err (UnknownOption word) else taken) ≡ said_unless (if not b then Some (UnknownOption word) else wrong) said
+if_known true word taken wrong said is = is refl
+if_known false word taken wrong said is = refl
 
 one_is : (known : Known) (before : List Stated) (option : Stated) → whole before ≡ true
     → taken_one known (said_by before) option ≡ said_unless (wrong_behind known before option) (said_by (before ++ option ∷ []))
 one_is known before option h =
-    one_by (list_any (bytes_eq option.word) (names_of known)) (takes_file option.word) (stands (option_of option.word) before) option.word
-    (option_of option.word) option.file (file_among journal_word before) (file_among journal_word (before ++ option ∷ []))
-    (form_of option.word) (log_among before) (log_among (before ++ option ∷ []))
-    (of_journal before option h) (of_log known before option h)
+    if_known (list_any (bytes_eq option.word) (names_of known)) option.word (known_taken (said_by before) option)
+    (known_wrong (stands (option_of option.word) before) option) (with (said_by before) option)
+    (one_of (TakesIt before option.value) option.word (names_of known) (takes_each known before option.value h))
+    ∙ ap (said_unless (wrong_behind known before option)) (said_more before option)
 
-file_there : (K S T : Bool) (word name : List ℕ) (file : Option (List ℕ))
-    → (if not K then Some (UnknownOption word)
-    else (if S then Some (StandsTwice name) else (if T && is_none file then Some (NeedsFile word) else None))) ≡ None
-    → (not T || is_some file) ≡ true
-file_there K S false word name file h = refl
-file_there K S true word name (Some f) h = refl
-file_there false S true word name None h = absurd (cc)
-file_there true true true word name None h = absurd (cc)
-file_there true false true word name None h = absurd (cc)
+-- ---- all of them
+
+right_value : (known stands : Bool) (unknown twice : Wrong) (wrong : Option Wrong)
+    → (if not known then Some unknown else (if stands then Some twice else wrong)) ≡ None → is_none wrong ≡ true
+right_value known stands unknown twice None h = refl
+right_value false stands unknown twice (Some wrong) h = absurd (cc)
+right_value true true unknown twice (Some wrong) h = absurd (cc)
+right_value true false unknown twice (Some wrong) h = absurd (cc)
 
 whole_more : (known : Known) (before : List Stated) (option : Stated) → whole before ≡ true → wrong_behind known before option ≡ None
     → whole (before ++ option ∷ []) ≡ true
 whole_more known before option h none =
-    let there = file_there (list_any (bytes_eq option.word) (names_of known)) (stands (option_of option.word) before)
-    (takes_file option.word) option.word (option_of option.word) option.file none in
-    list_all-append (λ o. not (takes_file o.word) || is_some o.file) before (option ∷ []) ∙ rw (h, there) refl
+    let right = right_value (list_any (bytes_eq option.word) (names_of known)) (stands (option_of option.word) before)
+    (UnknownOption option.word) (StandsTwice (option_of option.word)) (wrong_value option) none in
+    list_all-append (λ o. is_none (wrong_value o)) before (option ∷ []) ∙ rw (h, right) refl
 
 joined : (known : Known) (before rest : List Stated) (option : Stated) (wrong : Option Wrong)
     → taken_one known (said_by before) option ≡ said_unless wrong (said_by (before ++ option ∷ []))
@@ -223,5 +260,5 @@ taken_is known before (option ∷ rest) h =
 
 -- all of them, from none on
 pub all_taken : (known : Known) (words : List (List ℕ))
-    → taken_all known (record { journal = None; log = None }) (stated words) ≡ options_in known words
+    → taken_all known (record { journal = None; log = None; status = None }) (stated words) ≡ options_in known words
 all_taken known words = taken_is known [] (stated words) refl

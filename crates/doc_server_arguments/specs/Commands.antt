@@ -17,7 +17,8 @@ pub data Asked : Type 0 where
   Check : (config token : List ℕ) → Asked
   Replay : (config : List ℕ) → Asked
   Serve : (config written : List ℕ) (address : SocketAddr) (count turns : ℕ) → Asked
-  Listen : (config written : List ℕ) (address : SocketAddr) (journal : Option (List ℕ)) (log : Option LogForm) → Asked
+  Listen : (config written : List ℕ) (address : SocketAddr) (journal : Option (List ℕ)) (log : Option LogForm) (status : Option SocketAddr)
+      → Asked
   Compact : (config journal : List ℕ) → Asked
   Folders : (config : List ℕ) → Asked
   Lint : (config : List ℕ) (journal : Option (List ℕ)) → Asked
@@ -59,7 +60,7 @@ serve_in words = Err NoCommand
 
 -- a command `listen` of which the options are read
 abbrev pub listen_saying : List ℕ → List ℕ → SocketAddr → Result Said Wrong → Result Asked Wrong
-listen_saying config written address (Ok said) = Ok (Listen config written address said.journal said.log)
+listen_saying config written address (Ok said) = Ok (Listen config written address said.journal said.log said.status)
 listen_saying config written address (Err wrong) = Err wrong
 
 -- the same, of which the address is read
@@ -67,7 +68,7 @@ abbrev pub listen_at : List ℕ → List ℕ → Option SocketAddr → List (Lis
 listen_at config written None options = Err NoAddress
 listen_at config written (Some address) options = listen_saying config written address (options_in known.All options)
 
--- `listen CONFIG ADDR [--journal FILE] [--log | --log=json]`
+-- `listen CONFIG ADDR [--journal FILE] [--log | --log=json] [--status ADDR]`
 abbrev pub listen_in : List (List ℕ) → Result Asked Wrong
 listen_in (config ∷ written ∷ options) = listen_at config written (listen_address_of written) options
 listen_in words = Err NoCommand

@@ -2,17 +2,19 @@
 use Rattle.std.specs.Prelude.{ℕ, List, [], ◌∷◌, not, bytes_eq, Option, Some, None, option_copied, Result, Ok, Err, String, if◌then◌else◌}
 use Rattle.std.specs.Borrow.{Bor}
 use Rattle.std.specs.List.{list_any}
+use Rattle.std.specs.declared.net.socket_addr.SocketAddr.{SocketAddr}
 use Rattle.doc_server_arguments.specs.declared.log_form.LogForm.{LogForm}
 use Rattle.doc_server_arguments.specs.declared.options.Known.{Known}
 use Rattle.doc_server_arguments.specs.declared.options.Options.{Options}
 use Rattle.doc_server_arguments.specs.declared.usage_fault.UsageFault.{UsageFault}
-use Rattle.doc_server_arguments.specs.Options.{Said, Stated, form_of, log_word, names_of, takes_file, stated}
+use Rattle.doc_server_arguments.specs.Addresses.{listen_address_of}
+use Rattle.doc_server_arguments.specs.Options.{Said, Stated, form_of, journal_word, log_word, names_of, stated, status_word}
 use Rattle.doc_server_arguments.specs.Texts.{texts}
-use Rattle.doc_server_arguments.specs.Usage.{Wrong, UnknownOption, StandsTwice, NeedsFile, fault_shown}
+use Rattle.doc_server_arguments.specs.Usage.{Wrong, NoAddress, UnknownOption, StandsTwice, NeedsFile, NeedsAddress, fault_shown}
 
 -- what options say, of those that the code has
 abbrev pub said_so_far : Options → Said
-said_so_far options = record { journal = option_copied options.journal; log = options.log }
+said_so_far options = record { journal = option_copied options.journal; log = options.log; status = options.status }
 
 abbrev pub shown_options : Result Options UsageFault → Result Said Wrong
 shown_options (Ok options) = Ok (said_so_far options)
@@ -29,12 +31,24 @@ abbrev pub log_taken : Said → LogForm → Option LogForm → Result Said Wrong
 log_taken said form (Some before) = Err (StandsTwice log_word)
 log_taken said form None = Ok (record said { log = Some form })
 
+-- monitors at an address, once it is read
+abbrev pub status_at : Said → Option SocketAddr → Result Said Wrong
+status_at said None = Err NoAddress
+status_at said (Some address) = Ok (record said { status = Some address })
+
+-- an address that the option before which it stands takes, by what an earlier one took
+abbrev pub status_taken : Said → List ℕ → Option SocketAddr → Option (List ℕ) → Result Said Wrong
+status_taken said word (Some before) written = Err (StandsTwice word)
+status_taken said word None None = Err (NeedsAddress word)
+status_taken said word None (Some written) = status_at said (listen_address_of written)
+
 -- what is said with one option more
 abbrev pub taken_one : Known → Said → Stated → Result Said Wrong
 taken_one known said option =
     if not (list_any (bytes_eq option.word) (names_of known)) then Err (UnknownOption option.word)
-    else (if takes_file option.word then journal_taken said option.word said.journal option.file
-    else log_taken said (form_of option.word) said.log)
+    else (if bytes_eq option.word journal_word then journal_taken said option.word said.journal option.value
+    else (if bytes_eq option.word status_word then status_taken said option.word said.status option.value
+    else log_taken said (form_of option.word) said.log))
 
 -- what a function says of what is said
 abbrev pub onward : (Said → Result Said Wrong) → Result Said Wrong → Result Said Wrong
@@ -60,3 +74,18 @@ file_behind option None (file ∷ rest) = Ok (file, rest)
 abbrev pub shown_file : {A : Type 0} → Result (Bor (List ℕ) × Bor (List (String A))) UsageFault → Result (List ℕ × List (List ℕ)) Wrong
 shown_file (Ok left) = Ok (left.0.now, texts left.1.now)
 shown_file (Err fault) = Err (fault_shown fault)
+
+-- an address, once it is read, and the words behind it
+abbrev pub address_and : Option SocketAddr → List (List ℕ) → Result (SocketAddr × List (List ℕ)) Wrong
+address_and None rest = Err NoAddress
+address_and (Some address) rest = Ok (address, rest)
+
+-- the address of an option and the words behind it, by what an earlier one took
+abbrev pub address_behind : List ℕ → Option SocketAddr → List (List ℕ) → Result (SocketAddr × List (List ℕ)) Wrong
+address_behind option (Some before) behind = Err (StandsTwice option)
+address_behind option None [] = Err (NeedsAddress option)
+address_behind option None (written ∷ rest) = address_and (listen_address_of written) rest
+
+abbrev pub shown_address : {A : Type 0} → Result (SocketAddr × Bor (List (String A))) UsageFault → Result (SocketAddr × List (List ℕ)) Wrong
+shown_address (Ok left) = Ok (left.0, texts left.1.now)
+shown_address (Err fault) = Err (fault_shown fault)

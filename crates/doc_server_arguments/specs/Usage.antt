@@ -4,14 +4,15 @@ use Rattle.doc_server_arguments.specs.declared.usage_fault.UsageFault.{UsageFaul
 use Rattle.doc_server_arguments.specs.declared.usage_fault.UsageFault.TheVariants as faults
 use Rattle.doc_server_arguments.specs.ShownWords.{shown_word}
 
--- what isn't understood: the words are no command; ADDR of `listen` is no address; a word is no option of its command, or one that
--- stands before already, or one that has no file behind it, or no names of groups
+-- what isn't understood: the words are no command; ADDR of `listen` or of its `--status` is no address; a word is no option of its
+-- command, or one that stands before already, or one that has no file behind it, no address, or no names of groups
 pub data Wrong : Type 0 where
   NoCommand : Wrong
   NoAddress : Wrong
   UnknownOption : List ℕ → Wrong
   StandsTwice : List ℕ → Wrong
   NeedsFile : List ℕ → Wrong
+  NeedsAddress : List ℕ → Wrong
   NeedsGroups : Wrong
 
 -- the same as the code has it
@@ -20,6 +21,7 @@ fault_shown faults.Command = NoCommand
 fault_shown faults.Address = NoAddress
 fault_shown (faults.UnknownOption word) = UnknownOption word.now
 fault_shown (faults.NeedsFile word) = NeedsFile word.now
+fault_shown (faults.NeedsAddress word) = NeedsAddress word.now
 fault_shown faults.NeedsGroups = NeedsGroups
 fault_shown (faults.StandsTwice word) = StandsTwice word.now
 
@@ -30,4 +32,5 @@ usage_text NoAddress = codes "ADDR is an IP address or localhost, and a port: 12
 usage_text (UnknownOption word) = codes "unknown option: " ++ (shown_word word ++ codes "\ndocs_server: usage")
 usage_text (StandsTwice word) = shown_word word ++ codes " stands twice\ndocs_server: usage"
 usage_text (NeedsFile word) = shown_word word ++ codes " needs a file\ndocs_server: usage"
+usage_text (NeedsAddress word) = shown_word word ++ codes " needs an address\ndocs_server: usage"
 usage_text NeedsGroups = codes "--groups needs names of groups: a,b\ndocs_server: usage"

@@ -68,6 +68,8 @@ pub struct Listen<'a> {
     pub journal: Option<&'a str>,
     /// How each request is logged, where it is.
     pub log: Option<LogForm>,
+    /// Where monitors are answered, if they are.
+    pub status: Option<SocketAddr>,
 }
 
 /// A journal that is written anew, of the site that its edits lead to.

@@ -107,7 +107,7 @@ fn serve_of(words: &[String]) -> Result<Command<'_>, UsageFault<'_>>
     }))
 }
 
-/// `listen CONFIG ADDR [--journal FILE] [--log | --log=json]`
+/// `listen CONFIG ADDR [--journal FILE] [--log | --log=json] [--status ADDR]`
 fn listen_of(words: &[String]) -> Result<Command<'_>, UsageFault<'_>>
     ensures { shown_command result ≡ listen_in (texts words.now) }
 {
@@ -124,6 +124,7 @@ fn listen_of(words: &[String]) -> Result<Command<'_>, UsageFault<'_>>
         address,
         journal: options.journal,
         log: options.log,
+        status: options.status,
     }))
 }
 

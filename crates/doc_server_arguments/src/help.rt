@@ -1,9 +1,10 @@
 //! What `--help` prints.
 
-/// The commands, a line each, of at most 100 characters. It is printed without a line feed at its end.
+/// The commands, a line or two each, of at most 100 characters. It is printed without a line feed at its end.
 pub const HELP: &str = "docs_server COMMAND, one of
 
-listen CONFIG ADDR [--journal FILE] [--log]  serves the site to all who come
+listen CONFIG ADDR [--journal FILE] [--log] [--status ADDR]
+                                             serves the site to all who come
 lint CONFIG [--journal FILE]                 tells what is wrong with the configuration, a line each
 folders CONFIG                               tells which files of CONFIG's folders are bad
 compact CONFIG --journal FILE                writes the journal anew, of the site its edits lead to
@@ -19,4 +20,5 @@ examples FILE                                compares the examples of CommonMark
 --help                                       prints this
 
 ADDR is an IP address and a port, as 127.0.0.1:8080; for listen also localhost:8080.
---log tells each request on standard error; --log=json does so as JSON, an object a line.";
+--log tells each request on standard error; --log=json does so as JSON, an object a line.
+--status has monitors answered at another address: /health and /metrics.";

@@ -3,16 +3,19 @@
 ghost use Rattle.std.specs.Prelude.{◌≡◌, ◌∷◌, ◌≤◌, IfOk, length, option_copied};
 ghost use Rattle.doc_server_arguments.specs.Texts.{texts};
 ghost use Rattle.doc_server_arguments.specs.Options.{options_in, stated};
-ghost use Rattle.doc_server_arguments.specs.OptionSteps.{file_behind, log_taken, said_so_far, shown_file, shown_options, taken_all, taken_behind};
+ghost use Rattle.doc_server_arguments.specs.OptionSteps.{address_behind, file_behind, log_taken, said_so_far};
+ghost use Rattle.doc_server_arguments.specs.OptionSteps.{shown_address, shown_file, shown_options, taken_all, taken_behind};
 
+use crate::address::listen_address_of;
 use crate::log_form::LogForm;
 use crate::usage_fault::UsageFault;
 use doc_page_parts::heap::String;
+use std::net::SocketAddr;
 
 /// Which options a command has.
 #[derive(Clone, Copy, Debug, PartialEq, Eq)]
 pub(crate) enum Known {
-    /// `--journal FILE`, and `--log` or `--log=json`.
+    /// `--journal FILE`, `--log` or `--log=json`, and `--status ADDR`.
     All,
     /// `--journal FILE` alone.
     Journal,
@@ -25,6 +28,8 @@ pub(crate) struct Options<'a> {
     pub(crate) journal: Option<&'a str>,
     /// How each request is logged, where it is.
     pub(crate) log: Option<LogForm>,
+    /// Where monitors are answered, if they are.
+    pub(crate) status: Option<SocketAddr>,
 }
 
 /// The options that these words are.
@@ -37,6 +42,7 @@ pub(crate) fn options_of<'a>(
     let mut options = Options {
         journal: None,
         log: None,
+        status: None,
     };
     let mut rest = words;
     'options: while let Some((option, behind)) = rest.split_first() {
@@ -48,6 +54,7 @@ pub(crate) fn options_of<'a>(
 }
 
 /// The options with one more, and the words behind that.
+#[tactic(auto, using(crate::proofs::TakenLaws::none_of_four))]
 fn taken<'a>(
     known: Known,
     options: Options<'a>,
@@ -58,19 +65,25 @@ fn taken<'a>(
         ≡ taken_all known (said_so_far options.entry) (stated (option.now ∷ texts behind.now)) }
     ensures fewer { IfOk result (λ left. length left.1.now ≤ length behind.now) }
 {
-    match (option, known) {
-        ("--journal", _) => {
+    match option {
+        "--journal" => {
             let (file, rest) = file_of(option, options.journal, behind)?;
             let journal = Some(file);
             Ok((Options { journal, ..options }, rest))
         }
-        ("--log", Known::All) => {
+        _ if known == Known::Journal => Err(UsageFault::UnknownOption(option)),
+        "--log" => {
             let options = logged(options, LogForm::Plain)?;
             Ok((options, behind))
         }
-        ("--log=json", Known::All) => {
+        "--log=json" => {
             let options = logged(options, LogForm::Json)?;
             Ok((options, behind))
+        }
+        "--status" => {
+            let (address, rest) = address_behind(option, options.status, behind)?;
+            let status = Some(address);
+            Ok((Options { status, ..options }, rest))
         }
         _ => Err(UsageFault::UnknownOption(option)),
     }
@@ -106,4 +119,25 @@ fn file_of<'a>(
         return Err(UsageFault::NeedsFile(option));
     };
     Ok((file.as_str(), rest))
+}
+
+/// The address of an option, by what an earlier one said, and the words behind it.
+fn address_behind<'a>(
+    option: &'a str,
+    earlier: Option<SocketAddr>,
+    behind: &'a [String],
+) -> Result<(SocketAddr, &'a [String]), UsageFault<'a>>
+    ensures same { shown_address result ≡ address_behind option.now earlier (texts behind.now) }
+    ensures fewer { IfOk result (λ left. length left.1.now ≤ length behind.now) }
+{
+    if earlier.is_some() {
+        return Err(UsageFault::StandsTwice(option));
+    }
+    let Some((written, rest)) = behind.split_first() else {
+        return Err(UsageFault::NeedsAddress(option));
+    };
+    match listen_address_of(written.as_str()) {
+        Some(address) => Ok((address, rest)),
+        None => Err(UsageFault::Address),
+    }
 }

@@ -9,12 +9,14 @@ use std::fmt;
 pub enum UsageFault<'a> {
     /// No command, or not the words that it wants.
     Command,
-    /// ADDR of `listen` is none.
+    /// ADDR of `listen` or of `--status` is none.
     Address,
     /// This word is no option of the command.
     UnknownOption(&'a str),
     /// No file stands behind this option.
     NeedsFile(&'a str),
+    /// No address stands behind this option.
+    NeedsAddress(&'a str),
     /// No names of groups stand behind `--groups`.
     NeedsGroups,
     /// This option stands before already.
@@ -41,6 +43,10 @@ impl fmt::Display for UsageFault<'_> {
             UsageFault::NeedsFile(word) => {
                 let word = ShownWord::new(word);
                 write!(f, "{word} needs a file\ndocs_server: usage")
+            }
+            UsageFault::NeedsAddress(word) => {
+                let word = ShownWord::new(word);
+                write!(f, "{word} needs an address\ndocs_server: usage")
             }
             UsageFault::NeedsGroups => {
                 f.write_str("--groups needs names of groups: a,b\ndocs_server: usage")
