@@ -8,7 +8,7 @@ mod Feeding
 mod Fewer
 mod Given
 mod Going
-mod Leading
+pub mod Leading
 mod Hearing
 mod LeavingSteps
 mod Listed

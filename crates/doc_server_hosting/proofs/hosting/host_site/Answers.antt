@@ -11,11 +11,11 @@ use Rattle.doc_server_hosting.proofs.hosting.host_site.Goals as goal
 
 pub serve-requires-clause-new : goal.serve-requires-clause-new
 serve-requires-clause-new g c =
-    let net = c.new.result.net in
+    let net = c.new-net.result.net in
     nobody c.in_ok-saved.saved.hub.1.given (g.H.Network.Network.came net) (g.H.Network.Network.gone net) (g.H.Network.Network.is_free net)
     c.in_ok-server.server.peers
     (subst (λ n. (k : ℕ) → IsUnused (g.H.Network.Network.came n k) (g.H.Network.Network.gone n k) (g.H.Network.Network.is_free n k))
-    (sym c.new.ensures.net) c.in_ok-net.ensures) c.in_ok-server.ensures.empty
+    (sym c.new-net.ensures.net) c.in_ok-net.ensures) c.in_ok-server.ensures.empty
 
 pub serve-requires-in-None-clause-new : goal.serve-requires-in-None-clause-new
 serve-requires-in-None-clause-new g c =
