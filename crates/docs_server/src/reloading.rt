@@ -1,8 +1,5 @@
 //! The readers of a configuration, read anew where a line on standard input asks for that.
 
-ghost use Rattle.std.specs.Prelude.{◌≢◌, codes, string_bytes, IfSome};
-ghost use Rattle.std.specs.Str.{str_bytes};
-
 use crate::bounded::written_of;
 use crate::files::read_file;
 use crate::listen_fault::ListenFault;
