@@ -110,15 +110,13 @@ pub fn read_all_folders<R: AllocGlobal + Clone + Drop + Eprint + Files>(
     name: &str,
 ) -> Result<FolderRows, ListenFault> {
     let heap = rt.alloc();
-    let (
-        _,
-        Opened {
-            site,
-            bounds,
-            folders,
-            names: _,
-        },
-    ) = open(rt, heap, name)?;
+    let (_, opened) = open(rt, heap, name)?;
+    let Opened {
+        site,
+        bounds,
+        folders,
+        names: _,
+    } = opened;
     let Site { pages, entities: _ } = site;
     let rows = pages.config.pages.get();
     read_folders(rt, heap, rows, folders.get(), bounds.media_bytes, true)

@@ -46,17 +46,15 @@ fn pages_of<P: AllocGlobal + Clone + Drop + Eprint + Files>(
     rt: &P,
     config: &str,
 ) -> Result<(Pages, List<Move>), ListenFault> {
-    let (
-        _,
-        Bounded {
-            site,
-            bounds: _,
-            media: _,
-            moves,
-            passed,
-            names: _,
-        },
-    ) = read_bounded(rt, config)?;
+    let (_, bounded) = read_bounded(rt, config)?;
+    let Bounded {
+        site,
+        bounds: _,
+        media: _,
+        moves,
+        passed,
+        names: _,
+    } = bounded;
     tell_passed(rt, passed.get());
     let Site { pages, entities: _ } = site;
     Ok((pages, moves))

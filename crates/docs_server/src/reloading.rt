@@ -5,6 +5,8 @@ use crate::files::read_file;
 use crate::listen_fault::ListenFault;
 use crate::reload_fault::ReloadFault;
 use crate::told_faults::tell_refusal;
+use crate::written::Written;
+use doc_page_parts::failure::Memory;
 use doc_page_parts::heap::Heap;
 use doc_page_parts::text::Text;
 use doc_server_config::document::Document;
@@ -84,26 +86,36 @@ impl<'a, P: Eprint + Files + Input> Reloading<'a, P> {
         asks
     }
 
-    /// The readers of the file as it is now. Where something else in it has changed they aren't taken.
+    /// The readers of the file as it is now.
     fn reload(&mut self) -> Result<Reloaded, ReloadFault> {
         let text = read_file(self.rt, self.heap, self.name).map_err(ListenFault::from)?;
-        let (document, written) = match written_of(self.heap, &text) {
-            Ok(read) => read,
+        match written_of(self.heap, &text) {
+            Ok((document, written)) => self.take(document, written),
             Err(fault) => {
                 tell_refusal(self.rt, self.heap, self.name, &text);
-                return Err(ReloadFault::Config(fault));
+                Err(ReloadFault::Config(fault))
             }
-        };
-        if let Some(key) = changed_key(&self.document.table, &document.table) {
-            return Err(ReloadFault::Changed(Text::copy_of(self.heap, key)?));
         }
-        if self.document.table.get(READERS) == document.table.get(READERS) {
+    }
+
+    /// The readers of a document, which is the one that is served from here on. Where something else in it has changed they aren't taken.
+    fn take(&mut self, document: Document, written: Written) -> Result<Reloaded, ReloadFault> {
+        if let Some(key) = changed_key(self.heap, &self.document.table, &document.table)? {
+            return Err(ReloadFault::Changed(key));
+        }
+        if has_same_readers(&self.document.table, &document.table) {
             return Ok(Reloaded::Same);
         }
         let count = reader_count(&document.table);
+        let Written {
+            config,
+            bounds: _,
+            folders: _,
+            names,
+        } = written;
         self.document = document;
-        self.names.set(Some(written.names));
-        Ok(Reloaded::Others(written.config.readers, count))
+        self.names.set(Some(names));
+        Ok(Reloaded::Others(config.readers, count))
     }
 }
 
@@ -134,21 +146,37 @@ impl<P: Eprint + Files + Input> Source for Reloading<'_, P> {
 }
 
 /// The first key, but that of the readers, that two documents don't have alike.
-fn changed_key<'a>(old: &'a Table, new: &'a Table) -> Option<&'a str> {
-    match key_apart(old, new) {
-        Some(key) => Some(key),
-        None => key_apart(new, old),
+fn changed_key(heap: Heap, old: &Table, new: &Table) -> Result<Option<Text>, Memory> {
+    match key_apart(heap, old, new)? {
+        Some(key) => Ok(Some(key)),
+        None => key_apart(heap, new, old),
     }
 }
 
 /// The first key of a document, but that of the readers, that another doesn't have so.
-fn key_apart<'a>(document: &'a Table, other: &Table) -> Option<&'a str> {
+fn key_apart(heap: Heap, document: &Table, other: &Table) -> Result<Option<Text>, Memory> {
     'keys: for (key, value) in document.iter() {
-        if key.as_str() != READERS && other.get(key.as_str()) != Some(value) {
-            return Some(key.as_str());
+        if key.as_str() != READERS && !has(other, key.as_str(), value) {
+            return Ok(Some(Text::copy_of(heap, key.as_str())?));
         }
     }
-    None
+    Ok(None)
+}
+
+/// Whether a document has this value under the key.
+fn has(document: &Table, key: &str, value: &Value) -> bool {
+    match document.get(key) {
+        Some(found) => found == value,
+        None => false,
+    }
+}
+
+/// Whether two documents have the same readers, or none.
+fn has_same_readers(old: &Table, new: &Table) -> bool {
+    match old.get(READERS) {
+        Some(readers) => has(new, READERS, readers),
+        None => new.get(READERS).is_none(),
+    }
 }
 
 /// How many readers a document has.

@@ -16,6 +16,7 @@ mod compacting;
 mod guests;
 mod held;
 mod hosted;
+mod no_readers;
 mod notes;
 mod turning;
 

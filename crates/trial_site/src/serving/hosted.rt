@@ -20,6 +20,7 @@ use crate::listen::served::{Bounds, idle, saved_over};
 use crate::listen::told::push_told;
 use crate::serving::guests::{input_of, network_of};
 use crate::serving::held::replace;
+use crate::serving::no_readers::NoReaders;
 use crate::serving::notes::{Notes, Watcher};
 use doc_hub::hub::Hub;
 use doc_page::renderer::Renderer;
@@ -191,7 +192,7 @@ fn serve<N: Network, D: Device + NamedFile, R: Renderer + Drop, P: Clock>(
         return Err(ServeFault::Socket);
     };
     let mut server = Server::new(now, heap, asked.connections, idle(asked.idle_seconds))?;
-    let ended = server.serve(rt, net, saved);
+    let ended = server.serve(rt, net, saved, &mut NoReaders);
     drop(server);
     ended
 }

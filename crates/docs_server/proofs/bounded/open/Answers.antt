@@ -3,4 +3,4 @@ use Rattle.docs_server.specs.Listening.{IsOwn}
 use Rattle.docs_server.proofs.bounded.open.Goals as goal
 
 pub returns : goal.returns
-returns g c = subst IsOwn (sym c.in_ok-opened.ensures) c.in_ok-written.ensures
+returns g c = subst IsOwn (sym c.in_ok-opened.ensures) c.in_ok-document.ensures

@@ -4,8 +4,8 @@ use Rattle.docs_server.proofs.bounded.read_bounded.Goals as goal
 
 pub returns : goal.returns
 returns g c = record {
-  document = c.in_ok-opened.ensures.document;
-  own = c.in_ok-opened.ensures.own;
-  is_own = c.in_ok-opened.ensures.is_own;
-  others = subst (λ rows. HasOthers rows c.in_ok-bounded.bounded.site.pages.config.pages) c.in_ok-opened.ensures.pages c.in_ok-bounded.ensures;
+  document = c.in_ok-document.ensures.document;
+  own = c.in_ok-document.ensures.own;
+  is_own = c.in_ok-document.ensures.is_own;
+  others = subst (λ rows. HasOthers rows c.in_ok-bounded.bounded.site.pages.config.pages) c.in_ok-document.ensures.pages c.in_ok-bounded.ensures;
 }
