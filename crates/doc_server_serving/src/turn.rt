@@ -1,11 +1,11 @@
 //! Turns: clients are served, and nothing that a turn answers is handed over before its edits are on the device.
 
-ghost use Rattle.std.specs.Prelude.{◌≡◌, ℕ, length, Contains, OnErr, OnOk};
+ghost use Rattle.std.specs.Prelude.{◌≡◌, ℕ, length, Contains, IsErrOf, OnErr, OnOk};
 ghost use Rattle.std.specs.FinMap as map;
 ghost use Rattle.doc_hub.specs.Worlds.{World};
 ghost use Rattle.doc_server_network.specs.Networks.{Recalls, Rests, Stays};
 ghost use Rattle.doc_server_network.specs.Crashes.{CrashesLeave, RestoresEither};
-ghost use Rattle.doc_server_network.specs.Saved.{IsAllSaved, IsReady, IsSaved, IsSettled};
+ghost use Rattle.doc_server_network.specs.Saved.{HasFailed, IsAllSaved, IsReady, IsSaved, IsSettled};
 ghost use Rattle.doc_server_serving.specs.Hearing.{HeardAt, SparesAll, WaitOn};
 ghost use Rattle.doc_server_serving.specs.Sharing.{IsModest, SharesTurn};
 ghost use Rattle.doc_server_serving.specs.Turns.{Turns};
@@ -51,6 +51,8 @@ pub fn turn<N: Network, D: Device, R: Renderer + Drop>(
         × ((k : ℕ) → Contains ready.now k
         → HeardAt k s.run (map.get peers.old k) (map.get peers.new k)) }
     ensures waits_on { WaitOn peers.old peers.new }
+    ensures failed { IsErrOf result TurnFault.CannotWrite
+        → HasFailed D.failed saved.new.journal }
     ensures sent { OnOk result (HaveSent ready.now peers.new) }
     ensures ends { OnOk result (EndAll ready.now peers.new peers.new) }
     ensures waits { OnErr result (GivesFronts (N.gone net.old) (N.gone net.new) peers.old) }
