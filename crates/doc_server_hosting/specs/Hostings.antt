@@ -44,10 +44,10 @@ module _ {D R : Type 0} (seen : D → Option (List ℕ)) (may_leave : D → List
 
   module _ (moment : D → ℕ) (left_since : D → ℕ → List ℕ → Type 0) where
     -- How a site was served. Peers found the configured world behind the edits of its journal. From there a run of their events, and of
-    -- readers that were given, led to the world at the end: on each connection a front of what it sent there was handed over, and nothing else, and what it pushed there is
-    -- a front of what came. Where the site that peers found was as calls make it, apart from its media, the next start over the same
-    -- configuration has the site that stands, if the server ended because it was told to; and whatever a crash at any moment leaves of
-    -- the journal gives it the site behind a front of the run.
+    -- readers that were given, led to the world at the end: on each connection a front of what it sent there was handed over, and nothing
+    -- else, and what it pushed there is a front of what came. Where the site that peers found was as calls make it, apart from its media, the
+    -- next start over the same configuration has the site that stands, if the server ended because it was told to; and whatever a crash at any
+    -- moment leaves of the journal gives it the site behind a front of the run.
     pub record IsHosted (answered : Option ReaderTable → Type 0) (render : Renders) (file : List ℕ → Option (List ℕ)) (name : Option (List ℕ))
         (w : World) (saved : SavedHub D R) (came gone : ℕ → Option (List ℕ)) (ends_well : Type 0) : Type 0 where
       pub begin : World

@@ -48,7 +48,8 @@ pub fn host_site<H: Host, R: Renderer + Drop, C: Clock, W: Watch + Drop, S: Sour
 ) -> Result<Ended<H::Device, H::Network, R, W>, HostingFault<H::Fault>>
     ensures hosted { IfOk result (λ ended. IsHosted H.Device.seen H.Device.may_leave
         H.Device.failed H.Device.stale H.Device.moment H.Device.left_since
-        (S.answered source.new) (R.page hub.0) (H.file host.now) (option_copied terms.now.journal) hub.1 ended.saved
+        (S.answered source.new) (R.page hub.0) (H.file host.now)
+        (option_copied terms.now.journal) hub.1 ended.saved
         (H.Network.came ended.net) (H.Network.gone ended.net) (ended.served ≡ Ok tt)) }
     ensures woken { IfOk result (λ ended. AreWoken (H.Network.wakes ended.net) ended.server.peers) }
     ensures bound { IfOk result (λ ended. map.len ended.server.peers ≤ terms.now.connections) }
