@@ -1,5 +1,7 @@
 //! The readers of a configuration, read anew where a line on standard input asks for that.
 
+ghost use Rattle.std.specs.Prelude.{◌≡◌, OnErr};
+
 use crate::bounded::written_of;
 use crate::files::read_file;
 use crate::listen_fault::ListenFault;
@@ -86,8 +88,10 @@ impl<'a, P: Eprint + Files + Input> Reloading<'a, P> {
         asks
     }
 
-    /// The readers of the file as it is now.
-    fn reload(&mut self) -> Result<Reloaded, ReloadFault> {
+    /// The readers of the file as it is now. Where it is refused all stays as it was.
+    fn reload(&mut self) -> Result<Reloaded, ReloadFault>
+        ensures refused { OnErr result (self.new.document ≡ self.old.document) }
+    {
         let text = read_file(self.rt, self.heap, self.name).map_err(ListenFault::from)?;
         match written_of(self.heap, &text) {
             Ok((document, written)) => self.take(document, written),
@@ -99,7 +103,9 @@ impl<'a, P: Eprint + Files + Input> Reloading<'a, P> {
     }
 
     /// The readers of a document, which is the one that is served from here on. Where something else in it has changed they aren't taken.
-    fn take(&mut self, document: Document, written: Written) -> Result<Reloaded, ReloadFault> {
+    fn take(&mut self, document: Document, written: Written) -> Result<Reloaded, ReloadFault>
+        ensures refused { OnErr result (self.new.document ≡ self.old.document) }
+    {
         if let Some(key) = changed_key(self.heap, &self.document.table, &document.table)? {
             return Err(ReloadFault::Changed(key));
         }
