@@ -1,7 +1,7 @@
 //! An open journal.
 
 ghost use Rattle.std.specs.Prelude.{◌≡◌, ◌≤◌, ◌+◌, ◌++◌, ◌∷◌, [], List, ℕ, true, length, nat_le, OnOk, OnErr, IfOk, IsErrOf, IfSome};
-ghost use Rattle.doc_server_journal_records.specs.Records.{text_limit, IsPlain};
+ghost use Rattle.doc_server_journal_records.specs.Records.{text_limit, IsPlain, digest_behind, time_of};
 ghost use Rattle.doc_server_journal_records.specs.Readings.{ReadsAs};
 ghost use Rattle.doc_server_journal.specs.Devices.{AreBehind, LeavesOnly};
 ghost use Rattle.doc_server_journal.specs.Journals.{IsOpen, IsBeforeOrAfter, record_beside};
@@ -53,6 +53,8 @@ impl<D: Device> Journal<D> {
         ensures memory { IsErrOf result AppendError.Memory → self.new ≡ self.old }
         ensures room { OnOk result
             (self.new.room + (length text.now + record_beside) ≡ self.old.room) }
+        ensures time { OnOk result (self.new.digest ≡ digest_behind self.old.digest
+            (record { time = time_of seconds; text = text.now })) }
         ensures failed { IsErrOf result AppendError.Failed → D.failed self.new.device ≡ true }
     {
         let record = Record::new(heap, &self.digest, seconds, text)?;

@@ -7,3 +7,4 @@ mod Rooms
 mod Saving
 mod Settling
 mod Texts
+mod Written

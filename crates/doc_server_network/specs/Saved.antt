@@ -7,13 +7,14 @@ use Rattle.doc_hub_answers.specs.Replies.{Renders}
 use Rattle.doc_hub_events.specs.declared.event.Event.TheVariants as events
 use Rattle.doc_server_journal.specs.Journals.{IsOpen, record_beside}
 use Rattle.doc_server_journal.specs.declared.journal.Journal.{Journal}
-use Rattle.doc_server_journal_records.specs.Records.{text_limit}
+use Rattle.doc_server_journal_records.specs.Records.{digest_behind, text_limit, time_of}
 use Rattle.doc_server_kept.specs.KeptTurns.{IsOfCalls, IsRestored}
 use Rattle.doc_server_listen.specs.Counting.{count_in}
 use Rattle.doc_server_listen.specs.Edits.{Kept, has_room, longest_removal}
+use Rattle.doc_server_network.specs.Crashes.{OfBoth}
 use Rattle.doc_server_network.specs.declared.saved_hub.SavedHub.{SavedHub}
 use Rattle.doc_server_script.specs.PageLines.{lines_of}
-use Rattle.doc_server_settling.specs.Reserves.{removal_most, reserve, takes_removals, used}
+use Rattle.doc_server_settling.specs.Reserves.{grown_room, removal_most, reserve, takes_removals, used}
 use Rattle.doc_store.specs.Store.{StoreState, page_limit}
 use Rattle.doc_store.specs.declared.site_edit.SiteEdit.{SiteEdit}
 
@@ -44,6 +45,28 @@ may_step k = takes_step k.journal k.unsaved k.hub.1.takes_puts
 abbrev pub TakesByRoom : {D : Type 0} → Renders → Option (Journal D) → World → World → Type 0
 TakesByRoom render None w v = v ≡ w
 TakesByRoom render (Some journal) w v = Happens render w (events.TakePuts (nat_le reserve journal.room)) v tt
+
+-- whether the journal, where there is one, has the room that a look asks for, which is so much more
+abbrev pub has_grown : {D : Type 0} → ℕ → Option (Journal D) → Option (Journal D) → Bool
+has_grown growth (Some old) (Some new) = nat_le (grown_room old.room growth) new.room
+has_grown growth old new = true
+
+-- the digest of a journal behind the record of these lines, which says how many seconds there were behind the beginning of 1970; where
+-- there are no lines there is no record
+abbrev pub digest_after : ℕ → List ℕ → List ℕ → List ℕ
+digest_after seconds [] before = before
+digest_after seconds (b ∷ lines) before = digest_behind before (record { time = time_of seconds; text = b ∷ lines })
+
+abbrev pub IsOfTime : {D : Type 0} → ℕ → List ℕ → Journal D → Journal D → Type 0
+IsOfTime seconds lines old new = new.digest ≡ digest_after seconds lines old.digest
+
+-- where there is a journal, these lines were written to it at that time
+abbrev pub WereWritten : {D : Type 0} → ℕ → List ℕ → Option (Journal D) → Option (Journal D) → Type 0
+WereWritten seconds lines old new = OfBoth (IsOfTime seconds lines) old new
+
+-- and so were some
+abbrev pub WasWrittenAt : {D : Type 0} → ℕ → Option (Journal D) → Option (Journal D) → Type 0
+WasWrittenAt seconds old new = (lines : List ℕ) × WereWritten seconds lines old new
 
 -- whether the journal, where there is one, has room for the removal of each page
 abbrev pub takes_all_removals : {D : Type 0} → Option (Journal D) → World → Bool

@@ -10,7 +10,8 @@ ghost use Rattle.doc_hub_events.specs.declared.event.ReaderEdit.TheVariants as r
 ghost use Rattle.doc_server_journal.specs.Journals.{IsOpen};
 ghost use Rattle.doc_server_kept.specs.KeptTurns.{IsOfCalls, IsRestored, TurnIsRestored, TurnStaysOfCalls};
 ghost use Rattle.doc_server_network.specs.Crashes.{CrashesLeave, OfBoth, Restores, RestoresEither, StaleIsBehind};
-ghost use Rattle.doc_server_network.specs.Saved.{HasFailed, IsAllSaved, IsReady, IsSaved, IsSettled, StaysSaved, TakesByRoom, may_step, no_lines, takes_all_removals};
+ghost use Rattle.doc_server_network.specs.Saved.{HasFailed, IsAllSaved, IsReady, IsSaved, IsSettled, StaysSaved, TakesByRoom, WereWritten, has_grown, may_step, no_lines, takes_all_removals};
+ghost use Rattle.doc_server_listen.specs.Counting.{count_in};
 ghost use Rattle.doc_server_settling.specs.Reserves.{HasRoomToRemove};
 ghost use Rattle.doc_store.specs.Store.{StoreState};
 
@@ -219,6 +220,23 @@ impl<D: Device, R: Renderer + Drop> SavedHub<D, R> {
         }
     }
 
+    /// Behind how many bytes the journal's records end, where there is one.
+    pub fn journal_bytes(&self) -> Option<usize>
+        ensures { result ≡ option_map (λ journal. journal.end) self.now.journal }
+    {
+        match &self.journal {
+            Some(journal) => Some(journal.end),
+            None => None,
+        }
+    }
+
+    /// How many pages stand.
+    pub fn pages(&self) -> usize
+        ensures { result ≡ count_in self.now.hub.1 }
+    {
+        self.hub.len()
+    }
+
     /// The journal's device, where there is one, to be asked what it knows.
     pub fn device(&self) -> Option<&D>
         ensures { option_map (λ device. device.now) result
@@ -243,6 +261,9 @@ impl<D: Device, R: Renderer + Drop> SavedHub<D, R> {
             → HasFailed D.failed self.new.journal }
         ensures hub { self.new.hub ≡ self.old.hub }
         ensures rests { IsAllSaved self.old → self.new ≡ self.old }
+        ensures time { OnOk result ((lines : List ℕ)
+            × IfSome self.old.unsaved.lines (λ waiting. waiting ≡ lines)
+            × WereWritten seconds lines self.old.journal self.new.journal) }
         ensures any_moment { (config : StoreState) (begin : World)
             → IsSaved D.seen D.may_leave D.failed D.stale config begin self.old
             → CrashesLeave D.seen D.moment D.left_since
@@ -264,8 +285,9 @@ impl<D: Device, R: Renderer + Drop> SavedHub<D, R> {
     }
 
     /// Sees to the room of the journal, where there is one, by so many more bytes at most, and has the hub take puts while it keeps its
-    /// reserve. A server calls it behind `settle`, so that no turn lacks room. After an `Err` the server ends.
-    pub fn keep_reserve(&mut self, heap: Heap, growth: usize) -> Result<(), TurnFault>
+    /// reserve. `false`: the device has no room for so many. A server calls it behind `settle`, so that no turn lacks room. After an `Err`
+    /// the server ends.
+    pub fn keep_reserve(&mut self, heap: Heap, growth: usize) -> Result<bool, TurnFault>
         requires ready { IsReady D.seen D.may_leave D.failed D.stale self.old }
         requires all { IsAllSaved self.old }
         ensures ready { OnOk result (IsReady D.seen D.may_leave D.failed D.stale self.new) }
@@ -278,6 +300,8 @@ impl<D: Device, R: Renderer + Drop> SavedHub<D, R> {
             → OnOk result (may_step self.new ≡ true) }
         ensures taken { OnOk result (TakesByRoom (R.page self.old.hub.0) self.new.journal
             self.old.hub.1 self.new.hub.1) }
+        ensures grows { IfOk result (λ grown. grown
+            ≡ has_grown growth self.old.journal self.new.journal) }
         ensures failed { OnErr result (HasFailed D.failed self.new.journal) }
         ensures cannot_write { IfErr result (λ e. e ≡ TurnFault.CannotWrite) }
         ensures rests { OnErr result (self.new.hub.1 ≡ self.old.hub.1) }
@@ -289,11 +313,11 @@ impl<D: Device, R: Renderer + Drop> SavedHub<D, R> {
         ensures stale { OfBoth (StaleIsBehind D.stale) self.old.journal self.new.journal }
     {
         let Some(journal) = &mut self.journal else {
-            return Ok(());
+            return Ok(true);
         };
-        keep_reserve(journal, &mut self.hub, growth)?;
+        let has_grown = keep_reserve(journal, &mut self.hub, growth)?;
         self.unsaved = lines_for(heap, journal);
-        Ok(())
+        Ok(has_grown)
     }
 
     /// The leave to hand bytes over, where all edits are on the device, or there is no journal at all.

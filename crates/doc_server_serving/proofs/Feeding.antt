@@ -37,7 +37,7 @@ fed_more numbers id t u swept fed here k among = by (Contains-append_cases numbe
 tied : (k n : ℕ) → is_at (nat_cmp k) n ≡ true → n ≡ k
 tied k n is = sym (eqb-true k n (sym (unsigned_tied k n) ∙ is))
 
-among_keys : (es : List (ℕ × Peer)) (k : ℕ) (p : Peer) → map.find nat_cmp k es ≡ Some p → Contains (mapped (λ e. e.0) es) k
+pub among_keys : (es : List (ℕ × Peer)) (k : ℕ) (p : Peer) → map.find nat_cmp k es ≡ Some p → Contains (mapped (λ e. e.0) es) k
 among_keys [] k p found = absurd (some_none p (sym found))
 among_keys (e ∷ es) k p found = by (is_at (nat_cmp k) e.0) refl found (among_keys es k p)
   where

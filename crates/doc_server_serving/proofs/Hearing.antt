@@ -173,7 +173,7 @@ spares_one_join (Some p) None r a b = absurd a
 spares_one_join (Some p) (Some q) None a b = b
 spares_one_join (Some p) (Some q) (Some r) a b = record {
   resting = λ is. let e = a.resting is in b.resting (ap (λ (x : Peer). x.rests) e ∙ is) ∙ e;
-  reading = λ is. let e = a.reading is in b.reading (ap (λ (x : Peer). x.reads) e ∙ is) ∙ e;
+  reading = λ is. let e = a.reading is in b.reading (ap (λ (x : Peer). x.reads) e ∙ is) ∙ ap (λ (x : Peer). record x { times = r.times }) e;
   over = λ is. let e = a.over is in b.over (ap (λ (x : Peer). x.is_over) e ∙ is) ∙ e;
 }
 

@@ -16,10 +16,12 @@ pub mod HandingOver
 mod Minding
 mod Modesty
 mod NewsSteps
+mod Parting
 mod Readers
 mod ReadSteps
 mod ServingSteps
 mod Sites
+mod Sweeping
 mod TableServing
 mod TakeSteps
 mod TurnSteps

@@ -12,8 +12,7 @@ use Rattle.std.proofs.lemmas.Bool.Decides.{nat_tests}
 use Rattle.std.proofs.lemmas.List.Elements.{Contains-append_right}
 use Rattle.std.proofs.lemmas.List.Sums.{sum_by-append, sum_by-cons}
 use Rattle.doc_page_parts.proofs.Maps.{find_before, is_sorted_keys}
-use Rattle.doc_server_serving.specs.Parts.{numbers_of, takes_part, takes_part_at, turn_of}
-use Rattle.doc_server_serving.specs.Sharing.{times_among}
+use Rattle.doc_server_serving.specs.Parts.{numbers_of, takes_part, takes_part_at, times_among, turn_of}
 use Rattle.doc_server_serving.specs.Wirings.{Peer, Table}
 use Rattle.doc_server_serving.proofs.Walks.{below, from_on}
 

@@ -12,7 +12,8 @@ use Rattle.doc_hub_events.specs.declared.event.Event.TheVariants as events
 use Rattle.doc_server_listen.specs.Costs.{Left, cost_at, cost_by, cost_in, most_cost, step_cost}
 use Rattle.doc_server_serving.specs.Replies.{most_pending}
 use Rattle.doc_server_serving.specs.Servings.{ServedAt}
-use Rattle.doc_server_serving.specs.Sharing.{IsModest, SendsFew, SharesTurn, is_step, steps_on, times_among}
+use Rattle.doc_server_serving.specs.Sharing.{IsModest, SendsFew, SharesTurn, is_step, steps_on}
+use Rattle.doc_server_serving.specs.Parts.{times_among}
 use Rattle.doc_server_serving.specs.Wirings.{Peer}
 
 -- ---- steps

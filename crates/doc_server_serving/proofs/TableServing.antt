@@ -20,7 +20,8 @@ use Rattle.doc_server_network.specs.Networks.{Rests, RestsBut, Stays}
 use Rattle.doc_server_network.proofs.Passing.{append_none}
 use Rattle.doc_server_serving.specs.Hearing.{HearsAll}
 use Rattle.doc_server_serving.specs.Servings.{Served, ServedAt, Serves, ServesAll}
-use Rattle.doc_server_serving.specs.Sharing.{SharesTurn, times_among}
+use Rattle.doc_server_serving.specs.Parts.{times_among}
+use Rattle.doc_server_serving.specs.Sharing.{SharesTurn}
 use Rattle.doc_server_serving.specs.Wirings.{Peer, Table}
 use Rattle.doc_server_serving.proofs.Hearing.{all_hear_join}
 use Rattle.doc_server_serving.proofs.ServingSteps.{served_join}

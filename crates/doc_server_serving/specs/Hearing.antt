@@ -51,11 +51,11 @@ pub record HearsAll (ready : List ℕ) (run : List Happened) (t u : Table) : Typ
   pub any : (k : ℕ) → HearsAt k run (map.get t k) (map.get u k)
   pub each : (k : ℕ) → Contains ready k → HeardAt k run (map.get t k) (map.get u k)
 
--- ---- what leaves whoever rests, or reads, or is over, as before
+-- ---- what leaves whoever rests, or is over, as before, and whoever reads but for its times
 
 pub record Spares (p q : Peer) : Type 0 where
   pub resting : p.rests ≡ true → q ≡ p
-  pub reading : p.reads ≡ true → q ≡ p
+  pub reading : p.reads ≡ true → q ≡ record p { times = q.times }
   pub over : p.is_over ≡ true → q ≡ p
 
 abbrev pub SparesAt : Option Peer → Option Peer → Type 0

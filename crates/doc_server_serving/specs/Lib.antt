@@ -12,6 +12,8 @@ pub mod Sharing
 pub mod Silences
 pub mod Sites
 pub mod Strangers
+pub mod Sweeps
 pub mod Tellings
+pub mod Times
 pub mod Turns
 pub mod Wirings

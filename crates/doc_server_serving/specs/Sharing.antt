@@ -6,11 +6,8 @@ use Rattle.doc_hub_events.specs.declared.event.ConnectionEvent.TheVariants as ca
 use Rattle.doc_hub_events.specs.declared.event.Event.{Event}
 use Rattle.doc_hub_events.specs.declared.event.Event.TheVariants as events
 use Rattle.doc_server_listen.specs.Costs.{Left, cost_in, dear_in, most_cost}
+use Rattle.doc_server_serving.specs.Parts.{times_among}
 use Rattle.doc_server_serving.specs.Replies.{most_pending}
-
--- how often a number stands among these
-abbrev pub times_among : List ℕ → ℕ → ℕ
-times_among ready c = count_by (λ n. n == c) ready
 
 -- No connection takes more than its part, for each time that it is served, and all together no more than what was left for more than pages.
 pub record SharesTurn (ready : List ℕ) (run : List Happened) (old new : Left) : Type 0 where

@@ -3,11 +3,13 @@ use Rattle.std.specs.Prelude.{◌≡◌, ◌++◌, ◌⊎◌, ⊤, ℕ, List, []
 use Rattle.std.specs.FinMap as map
 use Rattle.std.specs.Ordering.{nat_cmp}
 use Rattle.std.specs.Io.KnownBytes.{append_known}
+use Rattle.doc_server_serving.specs.Times.{Times, new_times}
 
 -- What contracts see of a client: the bytes of replies that aren't handed over yet; whether its connection is still its own; whether it rests
 -- until the network tells of it; whether it starves, so that it waits for the next sweep; whether it is over, so that it is let
 -- go; whether it reads next: nothing is pending, and what was read holds no further request; whether it owes a reply that isn't handed
--- over in full; and whether it lingers: behind its last reply its peer was told of the end.
+-- over in full; whether it lingers: behind its last reply its peer was told of the end; whether memory was lacking for its last step; and
+-- for how long it may still stay.
 pub record Peer : Type 0 where
   pub pending : List ℕ
   pub is_open : Bool
@@ -17,6 +19,8 @@ pub record Peer : Type 0 where
   pub reads : Bool
   pub owes : Bool
   pub lingers : Bool
+  pub lacks : Bool
+  pub times : Times
 
 -- the clients by the numbers of their connections
 abbrev pub Table : Type 0
@@ -24,7 +28,18 @@ Table = map.FinMap nat_cmp Peer
 
 -- a client whose connection was just made
 abbrev pub new_peer : Peer
-new_peer = record { pending = []; is_open = true; rests = true; starves = false; is_over = false; reads = true; owes = false; lingers = false }
+new_peer = record {
+  pending = [];
+  is_open = true;
+  rests = true;
+  starves = false;
+  is_over = false;
+  reads = true;
+  owes = false;
+  lingers = false;
+  lacks = false;
+  times = new_times;
+}
 
 -- ---- one connection
 

@@ -4,6 +4,7 @@ ghost use Rattle.std.specs.Prelude.{◌≡◌, ◌⊎◌, true, false, [], lengt
 ghost use Rattle.doc_server_network.specs.Networks.{Recalls, Rests, RestsBut, Stays, StaysBut};
 ghost use Rattle.doc_server_serving.specs.Hearing.{Spares};
 ghost use Rattle.doc_server_serving.specs.Parts.{takes_part};
+ghost use Rattle.doc_server_serving.specs.Sweeps.{swept};
 ghost use Rattle.doc_server_serving.specs.Wirings.{ClosesBy, Ends, HandsOver, HasSent, Lingers, Swept, new_peer, woken};
 
 use crate::limits::Limits;
@@ -53,6 +54,8 @@ impl Model for Client {
       reads = is_reading_in l.stage && (deque_len l.replies == 0);
       owes = not (deque_len l.replies == 0);
       lingers = l.silence.lingers;
+      lacks = l.is_starved;
+      times = record { silence = l.silence; stranger = l.stranger; unfinished = l.unfinished };
     } };
 
     ghost invariant = { λ l. Starts l.sent l.replies.items };
@@ -249,6 +252,7 @@ impl Client {
     /// A sweep: what was starved is tried again, and who was silent for too long is let go, who is a stranger still, and whose request isn't
     /// whole. Where there is a crowd strangers are let go sooner.
     pub fn sweep(&mut self, limits: &Limits, is_crowded: bool)
+        ensures exact { self.new ≡ swept limits.now is_crowded self.old }
         ensures swept { Swept self.old self.new }
         ensures fed { self.new.starves ≡ false }
     {

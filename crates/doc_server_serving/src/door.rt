@@ -8,6 +8,7 @@ ghost use Rattle.doc_server_network.specs.Networks.{Accepts, HasNobody, Recalls,
 ghost use Rattle.doc_server_network.specs.Saved.{IsReady, StaysSaved};
 ghost use Rattle.doc_server_serving.specs.Hearing.{WaitOn};
 ghost use Rattle.doc_server_serving.specs.Invariants.{AreFree, GoesOn};
+ghost use Rattle.doc_server_serving.specs.Parts.{NoMore};
 ghost use Rattle.doc_server_serving.specs.Sites.{IsSameSite};
 
 use crate::peers::Peers;
@@ -77,6 +78,7 @@ impl Door {
         requires free { AreFree saved.old.hub.1.given (N.is_free net.old) }
         ensures goes { GoesOn R.page N.came N.gone N.wakes N.is_free saved.old.hub saved.new.hub
             net.old net.new peers.old peers.new }
+        ensures no_more { NoMore peers.old peers.new }
         ensures waits { WaitOn peers.old peers.new }
         ensures bound { map.len peers.old ≤ self.old.most → map.len peers.new ≤ self.old.most }
         ensures awaits { (self.new.is_awaited ≡ self.old.is_awaited)
@@ -112,6 +114,7 @@ impl Door {
         requires free { AreFree saved.old.hub.1.given (N.is_free net.old) }
         ensures goes { GoesOn R.page N.came N.gone N.wakes N.is_free saved.old.hub saved.new.hub
             net.old net.new peers.old peers.new }
+        ensures no_more { NoMore peers.old peers.new }
         ensures waits { WaitOn peers.old peers.new }
         ensures more { map.len peers.new ≤ map.len peers.old + 1 }
         ensures awaits { (self.new.is_awaited ≡ self.old.is_awaited)

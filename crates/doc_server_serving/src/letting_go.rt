@@ -5,6 +5,7 @@ ghost use Rattle.std.specs.FinMap as map;
 ghost use Rattle.doc_server_network.specs.Networks.{Recalls, Stays};
 ghost use Rattle.doc_server_network.specs.Saved.{IsReady, StaysSaved};
 ghost use Rattle.doc_server_serving.specs.Hearing.{WaitOn};
+ghost use Rattle.doc_server_serving.specs.Parts.{NoMore};
 ghost use Rattle.doc_server_serving.specs.Sites.{IsSameSite};
 ghost use Rattle.doc_server_serving.specs.Turns.{Turns};
 ghost use Rattle.doc_server_serving.specs.Wirings.{AreWoken};
@@ -26,6 +27,7 @@ pub fn let_go<N: Network, D: Device, R: Renderer + Drop>(
     ensures turns { Turns (R.page saved.old.hub.0) saved.old.hub.1 saved.new.hub.1 gone.now
         (N.came net.old) (N.came net.new) (N.gone net.old) (N.gone net.new) peers.old peers.new }
     ensures gone { (k : ℕ) → Contains gone.now k → map.get peers.new k ≡ None }
+    ensures no_more { NoMore peers.old peers.new }
     ensures waits { WaitOn peers.old peers.new }
     ensures woken { AreWoken (N.wakes net.old) peers.old → AreWoken (N.wakes net.new) peers.new }
     ensures ended { Stays (N.has_ended net.old) (N.has_ended net.new) }
@@ -55,6 +57,7 @@ fn let_one_go<N: Network, D: Device, R: Renderer + Drop>(
         (N.came net.old) (N.came net.new) (N.gone net.old) (N.gone net.new) peers.old peers.new }
     ensures gone { map.get peers.new id ≡ None }
     ensures out { (k : ℕ) → map.get peers.old k ≡ None → map.get peers.new k ≡ None }
+    ensures no_more { NoMore peers.old peers.new }
     ensures waits { WaitOn peers.old peers.new }
     ensures woken { AreWoken (N.wakes net.old) peers.old → AreWoken (N.wakes net.new) peers.new }
     ensures ended { Stays (N.has_ended net.old) (N.has_ended net.new) }

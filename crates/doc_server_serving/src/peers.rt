@@ -1,14 +1,15 @@
 //! The clients by the numbers of their connections.
 
-ghost use Rattle.std.specs.Prelude.{◌≡◌, ◌∷◌, ◌++◌, ℕ, [], false, length, is_some, true, Contains, OnErr, OnOk};
+ghost use Rattle.std.specs.Prelude.{◌≡◌, ◌==◌, ◌∷◌, ◌++◌, ℕ, [], false, length, is_some, option_map, true, Contains, OnErr, OnOk};
 ghost use Rattle.std.specs.FinMap as map;
 ghost use Rattle.std.specs.List.{list_any};
 ghost use Rattle.doc_server_network.specs.Networks.{Recalls, Rests, Stays};
 ghost use Rattle.doc_server_network.specs.Saved.{IsReady, StaysSaved};
 ghost use Rattle.doc_server_serving.specs.Hearing.{HearsAll, SparesAll};
-ghost use Rattle.doc_server_serving.specs.Parts.{is_over_at, numbers_of, takes_part, takes_part_at, turn_of};
+ghost use Rattle.doc_server_serving.specs.Parts.{StayBut, is_over_at, numbers_of, takes_part, takes_part_at, turn_of};
 ghost use Rattle.doc_server_serving.specs.Servings.{ServesAll};
 ghost use Rattle.doc_server_serving.specs.Sharing.{SharesTurn};
+ghost use Rattle.doc_server_serving.specs.Sweeps.{Sweeps, swept};
 ghost use Rattle.doc_server_serving.specs.Wirings.{AreWoken, EndAll, EndsAt, Gives, HasSentAt, HaveSent, IsFedAt, LingerAll, SweptAll, WokeAt, new_peer};
 
 use crate::client::Client;
@@ -109,6 +110,7 @@ impl Peers {
     pub fn send_all<N: Network>(&mut self, ready: &[u64], net: &mut N, permit: &Permit<'_>)
         ensures gives { Gives (N.gone net.old) (N.gone net.new) (N.has_ended net.new) self.old self.new }
         ensures sent { HaveSent ready.now self.new }
+        ensures others { StayBut ready.now self.old self.new }
         ensures spares { SparesAll self.old self.new }
         ensures came { Rests (N.came net.old) (N.came net.new) }
         ensures woken { AreWoken (N.wakes net.old) self.old → AreWoken (N.wakes net.new) self.new }
@@ -125,6 +127,7 @@ impl Peers {
     fn send_at<N: Network>(&mut self, id: u64, net: &mut N, permit: &Permit<'_>)
         ensures gives { Gives (N.gone net.old) (N.gone net.new) (N.has_ended net.new) self.old self.new }
         ensures sent { HasSentAt (map.get self.new id) }
+        ensures others { (k : ℕ) → (k == id) ≡ false → map.get self.new k ≡ map.get self.old k }
         ensures spares { SparesAll self.old self.new }
         ensures came { Rests (N.came net.old) (N.came net.new) }
         ensures woken { AreWoken (N.wakes net.old) self.old → AreWoken (N.wakes net.new) self.new }
@@ -152,6 +155,7 @@ impl Peers {
             (N.came net.old) (N.came net.new) (N.has_ended net.new) self.old self.new)
             × SharesTurn ready.now s.run share.old share.new
             × HearsAll ready.now s.run self.old self.new }
+        ensures others { StayBut ready.now self.old self.new }
         ensures gone { Rests (N.gone net.old) (N.gone net.new) }
         ensures woken { AreWoken (N.wakes net.old) self.old → AreWoken (N.wakes net.new) self.new }
         ensures ended { Stays (N.has_ended net.old) (N.has_ended net.new) }
@@ -182,6 +186,7 @@ impl Peers {
             (N.came net.old) (N.came net.new) (N.has_ended net.new) self.old self.new)
             × SharesTurn (id ∷ []) s.run share.old share.new
             × HearsAll (id ∷ []) s.run self.old self.new }
+        ensures others { (k : ℕ) → (k == id) ≡ false → map.get self.new k ≡ map.get self.old k }
         ensures gone { Rests (N.gone net.old) (N.gone net.new) }
         ensures woken { AreWoken (N.wakes net.old) self.old → AreWoken (N.wakes net.new) self.new }
         ensures ended { Stays (N.has_ended net.old) (N.has_ended net.new) }
@@ -205,6 +210,7 @@ impl Peers {
     pub fn finish_all<N: Network>(&mut self, ready: &[u64], net: &mut N, piece: &mut [u8])
         ensures lingers { LingerAll (N.came net.old) (N.came net.new) self.old self.new }
         ensures ends { EndAll ready.now self.old self.new }
+        ensures others { StayBut ready.now self.old self.new }
         ensures spares { SparesAll self.old self.new }
         ensures gone { Rests (N.gone net.old) (N.gone net.new) }
         ensures woken { AreWoken (N.wakes net.old) self.old → AreWoken (N.wakes net.new) self.new }
@@ -222,6 +228,7 @@ impl Peers {
     fn finish_at<N: Network>(&mut self, id: u64, net: &mut N, piece: &mut [u8])
         ensures lingers { LingerAll (N.came net.old) (N.came net.new) self.old self.new }
         ensures ends { EndsAt (map.get self.old id) (map.get self.new id) }
+        ensures others { (k : ℕ) → (k == id) ≡ false → map.get self.new k ≡ map.get self.old k }
         ensures spares { SparesAll self.old self.new }
         ensures gone { Rests (N.gone net.old) (N.gone net.new) }
         ensures woken { AreWoken (N.wakes net.old) self.old → AreWoken (N.wakes net.new) self.new }
@@ -238,6 +245,7 @@ impl Peers {
 
     /// A sweep of the clients of these numbers: those whose time is are to be let go.
     pub fn sweep(&mut self, numbers: &[u64], limits: &Limits, is_crowded: bool)
+        ensures exact { Sweeps limits.now is_crowded numbers.now self.old self.new }
         ensures swept { SweptAll self.old self.new }
         ensures fed { (k : ℕ) → Contains numbers.now k → IsFedAt (map.get self.new k) }
     {
@@ -248,6 +256,8 @@ impl Peers {
 
     /// A sweep of the client of this number, where there is one.
     fn sweep_at(&mut self, id: u64, limits: &Limits, is_crowded: bool)
+        ensures exact { map.get self.new id ≡ option_map (swept limits.now is_crowded) (map.get self.old id) }
+        ensures others { (k : ℕ) → (k == id) ≡ false → map.get self.new k ≡ map.get self.old k }
         ensures swept { SweptAll self.old self.new }
         ensures fed { IsFedAt (map.get self.new id) }
     {

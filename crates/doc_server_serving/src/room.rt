@@ -1,9 +1,9 @@
 //! The room of a journal, told to people where puts are refused for want of it.
 
-ghost use Rattle.std.specs.Prelude.{◌≡◌, IfErr, OnErr, OnOk};
+ghost use Rattle.std.specs.Prelude.{◌≡◌, IfErr, IfOk, OnErr, OnOk};
 ghost use Rattle.doc_hub.specs.Worlds.{World};
 ghost use Rattle.doc_server_network.specs.Crashes.{CrashesLeave, Restores};
-ghost use Rattle.doc_server_network.specs.Saved.{HasFailed, IsAllSaved, IsReady, IsSaved, IsSettled, TakesByRoom};
+ghost use Rattle.doc_server_network.specs.Saved.{HasFailed, IsAllSaved, IsReady, IsSaved, IsSettled, TakesByRoom, has_grown};
 ghost use Rattle.doc_server_serving.specs.Leading.{LeadsQuietly};
 ghost use Rattle.doc_server_serving.specs.Rooms.{growth_of};
 ghost use Rattle.doc_server_serving.specs.Sites.{IsSameSite};
@@ -23,12 +23,12 @@ const SLICE: usize = 1_048_576;
 const SLICES: usize = 8 * SLICE;
 
 /// Sees to the room of the journal, where there is one, by so many more bytes at most. Puts are taken from here on where it keeps its
-/// reserve, and where that has changed it is told.
+/// reserve, and where that has changed it is told. `false`: the device has no room for so many.
 pub fn keep_room<D: Device + NamedFile, R: Renderer + Drop>(
     heap: Heap,
     saved: &mut SavedHub<D, R>,
     growth: usize,
-) -> Result<(), TurnFault>
+) -> Result<bool, TurnFault>
     requires ready { IsReady D.seen D.may_leave D.failed D.stale saved.old }
     requires all { IsAllSaved saved.old }
     ensures ready { OnOk result (IsReady D.seen D.may_leave D.failed D.stale saved.new) }
@@ -43,21 +43,23 @@ pub fn keep_room<D: Device + NamedFile, R: Renderer + Drop>(
     ensures site { IsSameSite saved.old.hub.1 saved.new.hub.1 }
     ensures taken { OnOk result (TakesByRoom (R.page saved.old.hub.0) saved.new.journal
         saved.old.hub.1 saved.new.hub.1) }
+    ensures grows { IfOk result
+        (λ grown. grown ≡ has_grown growth saved.old.journal saved.new.journal) }
     ensures failed { OnErr result (HasFailed D.failed saved.new.journal) }
     ensures cannot_write { IfErr result (λ e. e ≡ TurnFault.CannotWrite) }
     ensures quiet { LeadsQuietly (R.page saved.old.hub.0) saved.old.hub.1 saved.new.hub.1 }
     ensures same { R.page saved.new.hub.0 ≡ R.page saved.old.hub.0 }
 {
     let took = saved.takes_puts();
-    saved.keep_reserve(heap, growth)?;
+    let grown = saved.keep_reserve(heap, growth)?;
     let takes = saved.takes_puts();
     if takes == took {
-        return Ok(());
+        return Ok(grown);
     }
     if let Some(device) = saved.device() {
         device.tell_room(takes);
     }
-    Ok(())
+    Ok(grown)
 }
 
 /// By how much the journal may grow behind a turn.

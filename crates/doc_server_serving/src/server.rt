@@ -13,8 +13,7 @@ ghost use Rattle.doc_server_serving.specs.Doors.{is_open};
 ghost use Rattle.doc_server_serving.specs.Hearing.{HeardAt, IsMinded, WaitOn};
 ghost use Rattle.doc_server_serving.specs.Invariants.{AreFree, GoesOn, GoesOnWith, HasServedNobody, IsServed};
 ghost use Rattle.doc_server_serving.specs.Leading.{AreTaken, IsOfServer, LeadsQuietly, LeadsQuietlyBy, LeadsWith, StayAnswered};
-ghost use Rattle.doc_server_serving.specs.Parts.{takes_part_at, turn_of};
-ghost use Rattle.doc_server_serving.specs.Sharing.{times_among};
+ghost use Rattle.doc_server_serving.specs.Parts.{AreMinded, NoMore, takes_part_at, times_among, turn_of};
 ghost use Rattle.doc_server_serving.specs.Sites.{IsSameSite};
 ghost use Rattle.doc_server_serving.specs.Wirings.{AreWoken, IsFedAt, SweptAll};
 ghost use Rattle.doc_server_serving.specs.declared.fault.ServeFault.TheVariants as faults;
@@ -25,6 +24,7 @@ use crate::fault::ServeFault;
 use crate::letting_go::let_go;
 use crate::limits::Limits;
 use crate::named_file::NamedFile;
+use crate::next_turn::NextTurn;
 use crate::peers::Peers;
 use crate::room::{growth, keep_room};
 use crate::source::Source;
@@ -66,12 +66,6 @@ pub struct Server {
     /// The numbers of others, for a moment.
     numbers: Vec<u64>,
     piece: Vec<u8>,
-    /// With whom the next turn begins.
-    first: u64,
-    /// Whether somebody takes part in the next turn of whom the network doesn't tell.
-    goes_on: bool,
-    /// Whether something has come on standard input in the turn that ran.
-    hears_input: bool,
     swept: Instant,
     /// When it was looked whether the journal can be found, and for its room.
     looked: Instant,
@@ -90,7 +84,6 @@ impl Server {
             ≡ record { most = connections; is_awaited = false; rests = false }) }
         ensures limits { IfOk result (λ server. server.limits ≡ limits) }
         ensures times { IfOk result (λ server. (server.swept ≡ now) × (server.looked ≡ now)) }
-        ensures awaits { IfOk result (λ server. server.goes_on ≡ false) }
     {
         let mut server = Server {
             heap,
@@ -100,9 +93,6 @@ impl Server {
             ready: Vec::new(heap),
             numbers: Vec::new(heap),
             piece: Vec::new(heap),
-            first: 0,
-            goes_on: false,
-            hears_input: false,
             swept: now,
             looked: now,
         };
@@ -148,8 +138,9 @@ impl Server {
             saved.old.journal saved.new.journal) }
     {
         keep_room(self.heap, saved, RESERVE + SPARE)?;
+        let mut next = NextTurn::new();
         'turns: for _ in 0..u64::MAX {
-            if self.go_on(rt, net, saved, source)? {
+            if self.go_on(rt, net, saved, source, &mut next)? {
                 return Ok(());
             }
         }
@@ -163,6 +154,7 @@ impl Server {
         net: &mut N,
         saved: &mut SavedHub<D, R>,
         source: &mut S,
+        next: &mut NextTurn,
     ) -> Result<bool, ServeFault>
         requires all { IsAllSaved saved.old }
         requires ready { IsReady D.seen D.may_leave D.failed D.stale saved.old }
@@ -171,7 +163,7 @@ impl Server {
             saved.old.hub saved.new.hub net.old net.new self.old.peers self.new.peers }
         ensures keeps { StayAnswered (S.answered source.old) (S.answered source.new) }
         ensures takes { IfOk result (λ has_ended. has_ended ≡ false
-            → self.new.hears_input ≡ true → (before : ReaderTable)
+            → next.new.hears_input ≡ true → (before : ReaderTable)
             × AreTaken (S.answered source.new) before saved.new.hub.1.readers) }
         ensures bound { map.len self.old.peers ≤ self.old.door.most
             → map.len self.new.peers ≤ self.old.door.most }
@@ -189,10 +181,11 @@ impl Server {
             (RestoresEither config saved.old.hub.1 saved.new.hub.1)
             saved.old.journal saved.new.journal }
     {
-        if self.turn(rt, net, saved)? {
+        if self.turn(rt, net, saved, next)? {
             return Ok(true);
         }
-        if !self.hears_input {
+        source.note(saved.pages(), saved.journal_bytes());
+        if !next.hears_input {
             return Ok(false);
         }
         take_readers(source, saved);
@@ -200,11 +193,12 @@ impl Server {
     }
 
     /// One turn. True: standard input has ended, and nobody is accepted any more.
-    pub fn turn<N: Network, D: Device + NamedFile, R: Renderer + Drop, C: Clock>(
+    fn turn<N: Network, D: Device + NamedFile, R: Renderer + Drop, C: Clock>(
         &mut self,
         rt: &C,
         net: &mut N,
         saved: &mut SavedHub<D, R>,
+        next: &mut NextTurn,
     ) -> Result<bool, ServeFault>
         requires all { IsAllSaved saved.old }
         requires ready { IsReady D.seen D.may_leave D.failed D.stale saved.old }
@@ -220,7 +214,9 @@ impl Server {
         ensures most { self.new.door.most ≡ self.old.door.most }
         ensures waits { WasWaitedFor (N.made net.new) }
         ensures hears { IfOk result (λ has_ended. has_ended ≡ false
-            → self.new.hears_input ≡ true → N.made net.new input_came) }
+            → next.new.hears_input ≡ true → N.made net.new input_came) }
+        ensures minds { IfOk result (λ has_ended. has_ended ≡ false
+            → AreMinded self.new.peers next.new.goes_on) }
         ensures ends { IfOk result (λ has_ended. has_ended ≡ true → N.made net.new end_of_input) }
         ensures asked { IfOk result (λ has_ended. has_ended ≡ false
             → is_open self.new.door (map.len self.new.peers) ≡ true
@@ -236,24 +232,24 @@ impl Server {
             (RestoresEither config saved.old.hub.1 saved.new.hub.1)
             saved.old.journal saved.new.journal }
     {
-        net.wait(self.longest_wait())?;
+        net.wait(self.longest_wait(next.goes_on))?;
         let now = time_of(rt, self.swept);
         look(self.heap, &mut self.looked, saved, now)?;
         let news = wake_told(&mut self.peers, net);
         self.door.hear(&news);
-        self.serve_ready(rt, net, saved)?;
+        self.serve_ready(rt, net, saved, next)?;
         let ends = news.input_has_ended;
         if ends {
             return Ok(true);
         }
-        self.end_turn(net, saved, now, news.is_lost)?;
-        self.hears_input = news.input_came;
+        self.end_turn(net, saved, next, now, news.is_lost)?;
+        next.hears_input = news.input_came;
         Ok(false)
     }
 
     /// How long the network is waited for: not at all where something is left to do.
-    fn longest_wait(&self) -> Duration {
-        if self.goes_on || self.door.is_open(&self.peers) {
+    fn longest_wait(&self, goes_on: bool) -> Duration {
+        if goes_on || self.door.is_open(&self.peers) {
             return Duration::from_millis(0);
         }
         Duration::from_millis(WAIT)
@@ -265,17 +261,19 @@ impl Server {
         rt: &C,
         net: &mut N,
         saved: &mut SavedHub<D, R>,
+        next: &mut NextTurn,
     ) -> Result<(), ServeFault>
         requires all { IsAllSaved saved.old }
         requires ready { IsReady D.seen D.may_leave D.failed D.stale saved.old }
         ensures list { OnOk result
-            (self.new.ready.items ≡ turn_of self.old.first self.old.peers) }
+            (self.new.ready.items ≡ turn_of next.old.first self.old.peers) }
         ensures each { OnOk result ((k : ℕ) → times_among self.new.ready.items k
             ≡ (if takes_part_at (map.get self.old.peers k) then 1 else 0)) }
         ensures goes { GoesOn R.page N.came N.gone N.wakes N.is_free saved.old.hub saved.new.hub
             net.old net.new self.old.peers self.new.peers }
-        ensures next { OnOk result (self.new.goes_on
+        ensures next { OnOk result (next.new.goes_on
             ≡ list_any (λ k. takes_part_at (map.get self.new.peers k)) self.new.ready.items) }
+        ensures minds { OnOk result (AreMinded self.new.peers next.new.goes_on) }
         ensures heard { OnOk result ((s : GoesOn R.page N.came N.gone N.wakes N.is_free
             saved.old.hub saved.new.hub net.old net.new self.old.peers self.new.peers)
             × ((k : ℕ) → HeardAt k s.leads.run
@@ -296,7 +294,7 @@ impl Server {
             saved.old.journal saved.new.journal }
     {
         self.ready.clear();
-        self.peers.collect(self.first, &mut self.ready)?;
+        self.peers.collect(next.first, &mut self.ready)?;
         let room = saved.room();
         let mut share = Share::new();
         turn(
@@ -309,8 +307,8 @@ impl Server {
             &mut share,
             seconds_of(rt),
         )?;
-        self.first = number_at(self.ready.as_slice(), share.behind());
-        self.goes_on = self.peers.goes_on(self.ready.as_slice());
+        next.first = number_at(self.ready.as_slice(), share.behind());
+        next.goes_on = self.peers.goes_on(self.ready.as_slice());
         if saved.room() == room {
             return Ok(());
         }
@@ -323,6 +321,7 @@ impl Server {
         &mut self,
         net: &mut N,
         saved: &mut SavedHub<D, R>,
+        next: &mut NextTurn,
         now: Instant,
         is_lost: bool,
     ) -> Result<(), ServeFault>
@@ -331,6 +330,8 @@ impl Server {
             net.old net.new self.old.peers self.new.peers }
         ensures waits { WaitOn self.old.peers self.new.peers }
         ensures calls { Recalls (N.made net.old) (N.made net.new) }
+        ensures minds { AreMinded self.old.peers next.old.goes_on
+            → OnOk result (AreMinded self.new.peers next.new.goes_on) }
         ensures asked { OnOk result (is_open self.new.door (map.len self.new.peers) ≡ true
             → WasAsked saved.old.hub.1.given (N.made net.new)) }
         ensures bound { map.len self.old.peers ≤ self.old.door.most
@@ -343,7 +344,7 @@ impl Server {
         ensures journal { saved.new.journal ≡ saved.old.journal }
         ensures unsaved { saved.new.unsaved ≡ saved.old.unsaved }
     {
-        let is_swept = self.sweep(now)?;
+        let is_swept = self.sweep(next, now)?;
         self.let_over_go(net, saved, is_swept || is_lost)?;
         self.door.accept(self.heap, &mut self.peers, net, saved);
         Ok(())
@@ -358,6 +359,7 @@ impl Server {
     ) -> Result<(), ServeFault>
         ensures goes { GoesOn R.page N.came N.gone N.wakes N.is_free saved.old.hub saved.new.hub
             net.old net.new self.old.peers self.new.peers }
+        ensures no_more { NoMore self.old.peers self.new.peers }
         ensures waits { WaitOn self.old.peers self.new.peers }
         ensures calls { Recalls (N.made net.old) (N.made net.new) }
         ensures fewer { map.len self.new.peers ≤ map.len self.old.peers }
@@ -380,8 +382,10 @@ impl Server {
     }
 
     /// Ends those whose time is over, from time to time, and tries again where memory was lacking. True: it is time.
-    fn sweep(&mut self, now: Instant) -> Result<bool, ServeFault>
+    fn sweep(&mut self, next: &mut NextTurn, now: Instant) -> Result<bool, ServeFault>
         ensures swept { SweptAll self.old.peers self.new.peers }
+        ensures minds { AreMinded self.old.peers next.old.goes_on
+            → OnOk result (AreMinded self.new.peers next.new.goes_on) }
         ensures fed { IfOk result (λ is_made. is_made ≡ true
             → (k : ℕ) → IsFedAt (map.get self.new.peers k)) }
         ensures most { self.new.door.most ≡ self.old.door.most }
@@ -396,7 +400,7 @@ impl Server {
         let is_crowded = self.peers.count() >= self.door.most;
         self.peers
             .sweep(self.numbers.as_slice(), &self.limits, is_crowded);
-        self.goes_on = self.goes_on || self.peers.goes_on(self.numbers.as_slice());
+        next.goes_on = next.goes_on || self.peers.goes_on(self.numbers.as_slice());
         Ok(true)
     }
 }

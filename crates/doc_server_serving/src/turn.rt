@@ -5,8 +5,9 @@ ghost use Rattle.std.specs.FinMap as map;
 ghost use Rattle.doc_hub.specs.Worlds.{World};
 ghost use Rattle.doc_server_network.specs.Networks.{Recalls, Rests, Stays};
 ghost use Rattle.doc_server_network.specs.Crashes.{CrashesLeave, RestoresEither};
-ghost use Rattle.doc_server_network.specs.Saved.{HasFailed, IsAllSaved, IsReady, IsSaved, IsSettled};
+ghost use Rattle.doc_server_network.specs.Saved.{HasFailed, IsAllSaved, IsReady, IsSaved, IsSettled, WasWrittenAt};
 ghost use Rattle.doc_server_serving.specs.Hearing.{HeardAt, SparesAll, WaitOn};
+ghost use Rattle.doc_server_serving.specs.Parts.{StayBut};
 ghost use Rattle.doc_server_serving.specs.Sharing.{IsModest, SharesTurn};
 ghost use Rattle.doc_server_serving.specs.Turns.{Turns};
 ghost use Rattle.doc_server_serving.specs.Wirings.{AreWoken, EndAll, Gives, GivesFronts, HaveSent};
@@ -51,6 +52,8 @@ pub fn turn<N: Network, D: Device, R: Renderer + Drop>(
         × ((k : ℕ) → Contains ready.now k
         → HeardAt k s.run (map.get peers.old k) (map.get peers.new k)) }
     ensures waits_on { WaitOn peers.old peers.new }
+    ensures others { StayBut ready.now peers.old peers.new }
+    ensures time { OnOk result (WasWrittenAt seconds saved.old.journal saved.new.journal) }
     ensures failed { IsErrOf result TurnFault.CannotWrite
         → HasFailed D.failed saved.new.journal }
     ensures sent { OnOk result (HaveSent ready.now peers.new) }
@@ -81,6 +84,7 @@ fn send_settled<N: Network, D: Device, R: Renderer + Drop>(
     requires all { IsAllSaved saved.now }
     ensures gives { Gives (N.gone net.old) (N.gone net.new) (N.has_ended net.new) peers.old peers.new }
     ensures sent { HaveSent ready.now peers.new }
+    ensures others { StayBut ready.now peers.old peers.new }
     ensures spares { SparesAll peers.old peers.new }
     ensures came { Rests (N.came net.old) (N.came net.new) }
     ensures woken { AreWoken (N.wakes net.old) peers.old → AreWoken (N.wakes net.new) peers.new }

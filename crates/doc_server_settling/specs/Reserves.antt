@@ -13,6 +13,14 @@ use Rattle.doc_store.specs.declared.site_edit.SiteEdit.{SiteEdit}
 unfoldable pub reserve : ℕ
 reserve = 8 * 1048576 + 128 + 10000 * 1024
 
+-- how much it keeps beyond that
+unfoldable pub spare : ℕ
+spare = 4 * 1048576
+
+-- the room that is asked for by a look: so much more than there is, up to the reserve and the spare room
+abbrev pub grown_room : ℕ → ℕ → ℕ
+grown_room room growth = min (room + growth) (reserve + spare)
+
 -- the room that a turn's lines take: where there is none no record is written
 abbrev pub used : List ℕ → ℕ
 used [] = 0

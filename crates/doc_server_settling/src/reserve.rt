@@ -1,12 +1,12 @@
 //! The room that a journal keeps for records to come.
 
-ghost use Rattle.std.specs.Prelude.{◌≡◌, ◌≤◌, List, ℕ, true, nat_le, IfErr, IfSome, OnErr, OnOk};
+ghost use Rattle.std.specs.Prelude.{◌≡◌, ◌≤◌, List, ℕ, true, nat_le, IfErr, IfOk, IfSome, OnErr, OnOk};
 ghost use Rattle.doc_hub.specs.Runs.{Happens};
 ghost use Rattle.doc_hub_events.specs.declared.event.Event.TheVariants as events;
 ghost use Rattle.doc_server_journal.specs.Devices.{AreBehind, LeavesOnly};
 ghost use Rattle.doc_server_journal.specs.Journals.{IsOpen};
 ghost use Rattle.doc_server_journal_records.specs.Readings.{ReadsAs};
-ghost use Rattle.doc_server_settling.specs.Reserves.{HasRoomFor, HasRoomToRemove, reserve, takes_removals};
+ghost use Rattle.doc_server_settling.specs.Reserves.{HasRoomFor, HasRoomToRemove, grown_room, reserve, takes_removals};
 
 use crate::fault::TurnFault;
 use doc_hub::hub::Hub;
@@ -38,13 +38,14 @@ pub fn has_room_to_remove<D: Device, R: Renderer + Drop>(journal: &Journal<D>, h
 }
 
 /// Sees to it that a journal keeps its reserve and the spare room, by so many more bytes at most, and has the hub take puts while it keeps
-/// the reserve. Between turns a server calls it, so that no turn lacks room. After an `Err` the server ends.
-#[tactic(auto, unfolding(crate::specs::Reserves::reserve))]
+/// the reserve. `false`: the device has no room for so many. Between turns a server calls it, so that no turn lacks room. After an `Err`
+/// the server ends.
+#[tactic(auto, unfolding(crate::specs::Reserves::reserve, crate::specs::Reserves::spare))]
 pub fn keep_reserve<D: Device, R: Renderer + Drop>(
     journal: &mut Journal<D>,
     hub: &mut Hub<R>,
     growth: usize,
-) -> Result<(), TurnFault>
+) -> Result<bool, TurnFault>
     requires open { (texts : List (List ℕ))
         × IsOpen D.seen D.may_leave D.failed D.stale journal.old texts }
     ensures open { OnOk result ((texts : List (List ℕ))
@@ -60,6 +61,8 @@ pub fn keep_reserve<D: Device, R: Renderer + Drop>(
         → IsOpen D.seen D.may_leave D.failed D.stale journal.old texts
         → AreBehind (D.stale journal.new.device) journal.old.end }
     ensures no_less { OnOk result (journal.old.room ≤ journal.new.room) }
+    ensures grows { IfOk result
+        (λ grown. grown ≡ nat_le (grown_room journal.old.room growth) journal.new.room) }
     ensures taken { OnOk result (Happens (R.page hub.old.0) hub.old.1
         (events.TakePuts (nat_le reserve journal.new.room)) hub.new.1 tt) }
     ensures failed { OnErr result (D.failed journal.new.device ≡ true) }
@@ -70,7 +73,7 @@ pub fn keep_reserve<D: Device, R: Renderer + Drop>(
         → OnOk result (HasRoomFor journal.new.room hub.new.1) }
 {
     let target = journal.room.saturating_add(growth).min(RESERVE + SPARE);
-    journal.make_room(target)?;
+    let grown = journal.make_room(target)?;
     hub.take_puts(journal.room >= RESERVE);
-    Ok(())
+    Ok(grown)
 }

@@ -14,6 +14,7 @@ use crate::listen_fault::ListenFault;
 use crate::monitors::Monitors;
 use crate::moving::make_moves;
 use crate::reloading::Reloading;
+use crate::shared::Shared;
 use crate::status::status_of;
 use crate::system::System;
 use crate::told_folders::tell_passed;
@@ -40,6 +41,7 @@ use doc_server_log_names::names::Names;
 use doc_server_network::watch::Watch;
 use doc_server_serving::limits::Limits;
 use doc_server_serving::source::Source;
+use doc_server_status::standing::Standing;
 use doc_server_streams::fault::Fault;
 use std::cell::Cell;
 use std::fs::{File, metadata};
@@ -79,12 +81,11 @@ pub fn run_listen<
                 names,
             } = bounded;
             tell_passed(rt, passed.get());
-            let new_names = Cell::new(None);
+            let shared = Shared::new();
             let Site { pages, entities } = site;
             let login = takes_logins(&pages.config);
             let form = lines_of(command.log, Askers { names, login });
-            let log = log_of(rt, form, &new_names);
-            let mut source = Reloading::new(rt, rt.alloc(), command.config, document, &new_names);
+            let mut source = Reloading::new(rt, rt.alloc(), command.config, document, &shared);
             let renderer: CommonMark<L> = CommonMark::with_front(
                 entities,
                 blank,
@@ -95,7 +96,17 @@ pub fn run_listen<
                 media,
                 moves,
             };
-            let status = listen_with(rt, renderer, ready, bounds, command, log, &mut source);
+            let log = log_of(rt, form, &shared.names);
+            let status = listen_with(
+                rt,
+                renderer,
+                ready,
+                bounds,
+                command,
+                log,
+                &shared.standing,
+                &mut source,
+            );
             status_of(rt, status)
         }
         Err(fault) => status_of(rt, Err(fault)),
@@ -105,16 +116,18 @@ pub fn run_listen<
 /// The same with any renderer, as a result. All pages stand, and the journal's edits are made, before the address is bound; peers are
 /// accepted behind the line that tells it.
 fn listen_with<
+    'a,
     R: Renderer + Drop,
     P: AllocGlobal + Clock + Eprint + Files<File = File> + Net + Print,
     S: Source,
 >(
-    rt: &P,
+    rt: &'a P,
     renderer: R,
     ready: Ready,
     bounds: Bounds,
     command: &Listen<'_>,
-    log: Option<AccessLog<'_, P>>,
+    log: Option<AccessLog<'a, P>>,
+    standing: &'a Cell<Standing>,
     source: &mut S,
 ) -> Result<u8, ListenFault> {
     let heap = rt.alloc();
@@ -134,7 +147,7 @@ fn listen_with<
         address: command.address,
         hears_input: is_pipe(rt),
     };
-    let watch = Watching::of(rt, log, monitors_of(rt, command.status)?);
+    let watch = Watching::of(rt, log, monitors_of(rt, command.status, standing)?);
     let ended = listen_on(
         rt,
         heap,
@@ -181,14 +194,15 @@ fn listen_on<H: Host, R: Renderer + Drop, C: Clock, W: Watch + Drop, S: Source>(
 }
 
 /// The door for monitors, where the arguments ask for one.
-fn monitors_of<P: AllocGlobal + Net>(
+fn monitors_of<'a, P: AllocGlobal + Net>(
     rt: &P,
     address: Option<SocketAddr>,
-) -> Result<Option<Monitors>, ListenFault> {
+    standing: &'a Cell<Standing>,
+) -> Result<Option<Monitors<'a>>, ListenFault> {
     let Some(address) = address else {
         return Ok(None);
     };
-    match Monitors::bind(rt, rt.alloc(), address) {
+    match Monitors::bind(rt, rt.alloc(), address, standing) {
         Ok(monitors) => Ok(Some(monitors)),
         Err(_) => Err(ListenFault::Command(Fault::Socket)),
     }

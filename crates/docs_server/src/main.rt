@@ -23,6 +23,7 @@ mod named_device;
 mod reload_fault;
 mod reloading;
 mod serving;
+mod shared;
 mod site_store;
 mod sites;
 mod stamp;

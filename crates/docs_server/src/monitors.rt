@@ -5,7 +5,9 @@ use doc_page_parts::heap::{BTreeMap, Heap, Vec};
 use doc_server_network::handed::Handed;
 use doc_server_network::net_fault::NetFault;
 use doc_server_status::counters::Counters;
+use doc_server_status::standing::Standing;
 use mio::net::TcpListener;
+use std::cell::Cell;
 use std::net::{Net, SocketAddr};
 use std::time::Instant;
 
@@ -14,7 +16,7 @@ const MOST: usize = 16;
 
 /// A listener, who has come by it, and what the server counts.
 #[derive(Drop)]
-pub struct Monitors {
+pub struct Monitors<'a> {
     heap: Heap,
     listener: TcpListener,
     peers: Vec<Monitor>,
@@ -23,11 +25,18 @@ pub struct Monitors {
     standing: BTreeMap<u64, ()>,
     /// When the turn that runs began.
     began: Option<Instant>,
+    /// What stands is told here.
+    standing: &'a Cell<Standing>,
 }
 
-impl Monitors {
+impl<'a> Monitors<'a> {
     /// A door at this address. Nothing was counted yet.
-    pub fn bind<R: Net>(rt: &R, heap: Heap, address: SocketAddr) -> Result<Monitors, NetFault> {
+    pub fn bind<R: Net>(
+        rt: &R,
+        heap: Heap,
+        address: SocketAddr,
+        standing: &'a Cell<Standing>,
+    ) -> Result<Monitors<'a>, NetFault> {
         let Ok(listener) = TcpListener::bind(rt, address) else {
             return Err(NetFault);
         };
@@ -38,6 +47,7 @@ impl Monitors {
             counters: Counters::new(),
             standing: BTreeMap::new(heap),
             began: None,
+            standing,
         })
     }
 
@@ -47,6 +57,7 @@ impl Monitors {
         let Some(now) = now else {
             return;
         };
+        self.counters.stood(self.standing.get());
         self.accept(now);
         self.answer(now);
     }

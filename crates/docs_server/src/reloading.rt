@@ -6,18 +6,17 @@ use crate::bounded::written_of;
 use crate::files::read_file;
 use crate::listen_fault::ListenFault;
 use crate::reload_fault::ReloadFault;
+use crate::shared::Shared;
 use crate::told_faults::tell_refusal;
 use crate::written::Written;
 use doc_page_parts::failure::Memory;
 use doc_page_parts::heap::Heap;
 use doc_page_parts::text::Text;
 use doc_server_config::document::Document;
-use doc_server_log_names::names::Names;
 use doc_server_serving::source::Source;
 use doc_server_streams::input::Input as _;
 use doc_server_streams::read_from::ReadFrom;
 use doc_store::readers::Readers;
-use std::cell::Cell;
 use std::rt::Files;
 use toml::{Table, Value};
 
@@ -39,8 +38,8 @@ pub struct Reloading<'a, P> {
     name: &'a str,
     /// What it is as it is served.
     document: Document,
-    /// Where the log finds the names of new readers.
-    names: &'a Cell<Option<Names>>,
+    /// Where the log finds the names of new readers, and the door what stands.
+    shared: &'a Shared,
 }
 
 /// What a reload gives.
@@ -59,14 +58,14 @@ impl<'a, P: Eprint + Files + Input> Reloading<'a, P> {
         heap: Heap,
         name: &'a str,
         document: Document,
-        names: &'a Cell<Option<Names>>,
+        shared: &'a Shared,
     ) -> Reloading<'a, P> {
         Reloading {
             rt,
             heap,
             name,
             document,
-            names,
+            shared,
         }
     }
 
@@ -120,7 +119,7 @@ impl<'a, P: Eprint + Files + Input> Reloading<'a, P> {
             names,
         } = written;
         self.document = document;
-        self.names.set(Some(names));
+        self.shared.names.set(Some(names));
         Ok(Reloaded::Others(config.readers, count))
     }
 }
@@ -140,14 +139,20 @@ impl<P: Eprint + Files + Input> Source for Reloading<'_, P> {
                 None
             }
             Ok(Reloaded::Others(readers, count)) => {
+                self.shared.tell_reload(true);
                 let _ = eprintln!(self.rt; "reload: {count} readers");
                 Some(readers)
             }
             Err(fault) => {
+                self.shared.tell_reload(false);
                 let _ = eprintln!(self.rt; "reload refused: {fault}");
                 None
             }
         }
+    }
+
+    fn note(&mut self, pages: usize, journal_bytes: Option<usize>) {
+        self.shared.tell_standing(pages, journal_bytes);
     }
 }
 

@@ -12,7 +12,7 @@ use std::time::Instant;
 pub struct Watching<'a, P> {
     rt: &'a P,
     log: Option<AccessLog<'a, P>>,
-    monitors: Option<Monitors>,
+    monitors: Option<Monitors<'a>>,
 }
 
 impl<'a, P: Clock + Eprint> Watching<'a, P> {
@@ -20,7 +20,7 @@ impl<'a, P: Clock + Eprint> Watching<'a, P> {
     pub fn of(
         rt: &'a P,
         log: Option<AccessLog<'a, P>>,
-        monitors: Option<Monitors>,
+        monitors: Option<Monitors<'a>>,
     ) -> Option<Watching<'a, P>> {
         if log.is_none() && monitors.is_none() {
             return None;

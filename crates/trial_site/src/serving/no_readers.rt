@@ -15,4 +15,6 @@ impl Source for NoReaders {
     fn hear(&mut self) -> Option<Readers> {
         None
     }
+
+    fn note(&mut self, _pages: usize, _journal_bytes: Option<usize>) {}
 }

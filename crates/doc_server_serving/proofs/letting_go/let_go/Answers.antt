@@ -5,6 +5,7 @@ use Rattle.std.proofs.lemmas.List.{take_more}
 use Rattle.doc_server_serving.specs.Turns.{Turns}
 use Rattle.doc_server_serving.proofs.Minding.{out_more, waits_join, waits_nobody}
 use Rattle.doc_server_serving.proofs.LeavingSteps.{leaves_nobody, turns_join}
+use Rattle.doc_server_serving.proofs.Parting.{more_join, more_nobody}
 use Rattle.doc_server_serving.proofs.Sites.{same_join, same_site}
 use Rattle.doc_server_serving.proofs.letting_go.let_go.Goals as goal
 
@@ -14,6 +15,7 @@ numbers-init g c = record {
       (g.N.Network.came c.args.net.now) (g.N.Network.gone c.args.net.now) (g.N.Network.gone c.args.net.now) c.args.peers.now (λ k. refl)
       (λ k. refl);
   out = λ k among. absurd (omega (arith, among.1));
+  no_more = more_nobody c.args.peers.now;
   waits = waits_nobody c.args.peers.now;
   woken = λ w. w;
   ended = λ k e. e;
@@ -43,6 +45,7 @@ numbers-preserved g c =
           out_more (take c.numbers.id-index c.args.gone.now) _ c.numbers.peers c.let_one_go.new.peers c.let_one_go.ensures.out
           c.numbers.invariant.out c.let_one_go.ensures.gone k
           (subst (λ (xs : List ℕ). Contains xs k) (take_more c.args.gone.now c.numbers.id-index 0 c.numbers-test.true) among);
+      no_more = more_join c.args.peers.now c.numbers.peers c.let_one_go.new.peers c.numbers.invariant.no_more c.let_one_go.ensures.no_more;
       waits = waits_join c.args.peers.now c.numbers.peers c.let_one_go.new.peers c.numbers.invariant.waits c.let_one_go.ensures.waits;
       woken = λ w. c.let_one_go.ensures.woken (c.numbers.invariant.woken w);
       ended = λ k e. c.let_one_go.ensures.ended k (c.numbers.invariant.ended k e);

@@ -4,6 +4,7 @@ use Rattle.std.specs.FinMap as map
 use Rattle.doc_server_network.specs.Networks.{Recalls, Stays}
 use Rattle.doc_server_network.specs.Saved.{IsReady, StaysSaved}
 use Rattle.doc_server_serving.specs.Hearing.{WaitOn}
+use Rattle.doc_server_serving.specs.Parts.{NoMore}
 use Rattle.doc_server_serving.specs.Sites.{IsSameSite}
 use Rattle.doc_server_serving.specs.Turns.{Turns}
 use Rattle.doc_server_serving.specs.Wirings.{AreWoken}
@@ -14,6 +15,7 @@ invariant-numbers g l = record {
   turns : Turns (g.R.Renderer.page l.fn.saved.hub.0) l.fn.saved.hub.1 l.saved.hub.1 (take l.id-index l.gone)
       (g.N.Network.came l.fn.net) (g.N.Network.came l.net) (g.N.Network.gone l.fn.net) (g.N.Network.gone l.net) l.fn.peers l.peers;
   out : (k : ℕ) → Contains (take l.id-index l.gone) k → map.get l.peers k ≡ None;
+  no_more : NoMore l.fn.peers l.peers;
   waits : WaitOn l.fn.peers l.peers;
   woken : AreWoken (g.N.Network.wakes l.fn.net) l.fn.peers → AreWoken (g.N.Network.wakes l.net) l.peers;
   ended : Stays (g.N.Network.has_ended l.fn.net) (g.N.Network.has_ended l.net);

@@ -3,6 +3,7 @@ use Rattle.std.specs.FinMap as map
 use Rattle.doc_hub_events.specs.declared.event.ConnId.{ConnId}
 use Rattle.doc_server_serving.proofs.LeavingSteps.{leaves, leaves_nobody, woken_left}
 use Rattle.doc_server_serving.proofs.Minding.{out_here, out_still, stands_not, waits_nobody, waits_out}
+use Rattle.doc_server_serving.proofs.Parting.{more_nobody, more_out}
 use Rattle.doc_server_serving.proofs.Sites.{disconnects_same, same_site}
 use Rattle.doc_server_serving.proofs.letting_go.let_one_go.Goals as goal
 
@@ -48,3 +49,9 @@ returns-then-not-has-clause-waits g c = waits_nobody c.args.peers.now
 
 pub returns-clause-waits : goal.returns-clause-waits
 returns-clause-waits g c = waits_out c.args.peers.now c.remove.new.self c.args.id c.remove.ensures
+
+pub returns-then-not-has-clause-no_more : goal.returns-then-not-has-clause-no_more
+returns-then-not-has-clause-no_more g c = more_nobody c.args.peers.now
+
+pub returns-clause-no_more : goal.returns-clause-no_more
+returns-clause-no_more g c = more_out c.args.peers.now c.remove.new.self c.args.id c.remove.ensures

@@ -1,6 +1,7 @@
 use Rattle.std.proofs.Common.{ap}
 use Rattle.doc_server_serving.proofs.Ending.{ends_turned, sent_turned}
 use Rattle.doc_server_serving.proofs.Minding.{waits_heard, waits_join, waits_spared}
+use Rattle.doc_server_serving.proofs.Parting.{stay_join}
 use Rattle.doc_server_serving.proofs.Tables.{gives_fronts}
 use Rattle.doc_server_serving.proofs.TurnSteps.{begun_sharing, ended_sharing, on_err}
 use Rattle.doc_server_serving.proofs.turn.turn.Goals as goal
@@ -71,3 +72,19 @@ returns-clause-woken g c =
     λ w.
     c.finish_all.ensures.woken
     (c.send_settled-2.ensures.woken (c.take_in_all.ensures.woken (c.send_settled.ensures.woken w)))
+
+pub returns-in_err-settle-clause-others : goal.returns-in_err-settle-clause-others
+returns-in_err-settle-clause-others g c =
+    stay_join c.args.ready.now c.args.peers.now c.send_settled.new.peers c.take_in_all.new.self c.send_settled.ensures.others
+    c.take_in_all.ensures.others
+
+pub returns-clause-others : goal.returns-clause-others
+returns-clause-others g c =
+    stay_join c.args.ready.now c.args.peers.now c.take_in_all.new.self c.finish_all.new.self
+    (stay_join c.args.ready.now c.args.peers.now c.send_settled.new.peers c.take_in_all.new.self c.send_settled.ensures.others
+    c.take_in_all.ensures.others)
+    (stay_join c.args.ready.now c.take_in_all.new.self c.send_settled-2.new.peers c.finish_all.new.self c.send_settled-2.ensures.others
+    c.finish_all.ensures.others)
+
+pub returns-clause-time : goal.returns-clause-time
+returns-clause-time g c = ?

@@ -4,6 +4,7 @@ use Rattle.doc_server_listen.specs.Edits.{Kept}
 use Rattle.doc_server_settling.specs.Reserves.{reserve}
 use Rattle.doc_server_network.proofs.QuietEvents.{takes}
 use Rattle.doc_server_network.proofs.Settling.{crashes_to_begin, grows, may_step_behind, stale_behind}
+use Rattle.doc_server_network.proofs.Written.{grown_nowhere, grown_there}
 use Rattle.doc_server_network.proofs.saved_hub.SavedHub.keep_reserve.Goals as goal
 
 pub returns-in_err-keep_reserve-clause-any_moment : goal.returns-in_err-keep_reserve-clause-any_moment
@@ -43,3 +44,11 @@ returns-clause-any_moment g c =
     crashes_to_begin g.D.Device.seen g.D.Device.may_leave g.D.Device.failed g.D.Device.stale config g.D.Device.moment g.D.Device.left_since
     begin c.args.self.now.unsaved c.args.self.now.hub.1 c.args.self.now.hub.1 c.args.self.now.journal c.in-Some.journal
     c.keep_reserve.new.journal c.in-Some.is c.in_ok-keep_reserve.ensures.any_moment is
+
+pub returns-in_default-clause-grows : goal.returns-in_default-clause-grows
+returns-in_default-clause-grows g c = grown_nowhere c.args.growth c.args.self.now.journal ?
+
+pub returns-clause-grows : goal.returns-clause-grows
+returns-clause-grows g c =
+    grown_there c.args.growth c.args.self.now.journal c.in-Some.journal c.keep_reserve.new.journal c.in_ok-keep_reserve.has_grown
+    c.in-Some.is c.in_ok-keep_reserve.ensures.grows

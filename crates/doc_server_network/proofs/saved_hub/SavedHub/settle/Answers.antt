@@ -1,6 +1,7 @@
 use Rattle.std.proofs.Common.{Some, sym, ap, ◌∙◌}
 use Rattle.doc_server_listen.specs.Edits.{Kept}
 use Rattle.doc_server_network.proofs.Settling.{crashes, none_there, of_this, ready_behind, settled_at_rest, settles, stale_behind}
+use Rattle.doc_server_network.proofs.Written.{all_written, none_written, nowhere}
 use Rattle.doc_server_network.specs.Saved.{IsSavedIn}
 use Rattle.doc_server_network.proofs.saved_hub.SavedHub.settle.Goals as goal
 
@@ -61,3 +62,19 @@ returns-clause-any_moment g c =
     c.args.self.now.unsaved c.args.self.now.hub.1 c.args.self.now.journal c.in-Some.journal c.append.new.self
     c.in-Some-whole_lines.lines.now c.as_bytes.result.now c.in-Some.is told.0 told.1 c.as_bytes.ensures.value
     c.in_ok-append.ensures.any_moment is
+
+pub returns-in_default-clause-time : goal.returns-in_default-clause-time
+returns-in_default-clause-time g c = nowhere c.args.seconds c.args.self.now.unsaved.lines c.args.self.now.journal ?
+
+pub returns-then-is_empty-clause-time : goal.returns-then-is_empty-clause-time
+returns-then-is_empty-clause-time g c =
+    let told = c.in-Some-whole_lines.ensures in
+    none_written c.args.seconds c.args.self.now.unsaved.lines c.args.self.now.journal c.in-Some.journal
+    c.in-Some-whole_lines.lines.now c.in-Some.is told.1 (sym c.if-is_empty.ensures)
+
+pub returns-clause-time : goal.returns-clause-time
+returns-clause-time g c =
+    let told = c.in-Some-whole_lines.ensures in
+    all_written c.args.seconds c.args.self.now.unsaved.lines c.args.self.now.journal c.in-Some.journal
+    c.in-Some-whole_lines.lines.now c.in-Some.is told.1 c.as_bytes.result.now c.append.new.self (sym c.if-is_empty.ensures)
+    c.as_bytes.ensures.value c.in_ok-append.ensures.time

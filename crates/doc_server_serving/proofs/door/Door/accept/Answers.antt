@@ -5,6 +5,7 @@ use Rattle.doc_server_serving.proofs.Accepting.{goes_silently, quiet_none}
 use Rattle.doc_server_serving.proofs.Asking.{asked_above, asked_open, awaits_join, none_less, shut}
 use Rattle.doc_server_serving.proofs.Going.{goes_join}
 use Rattle.doc_server_serving.proofs.Minding.{waits_join, waits_nobody}
+use Rattle.doc_server_serving.proofs.Parting.{more_join, more_nobody}
 use Rattle.doc_server_serving.proofs.Sites.{same_join, same_site}
 use Rattle.doc_server_serving.proofs.door.Door.accept.Goals as goal
 
@@ -13,6 +14,7 @@ accepts-init g c = record {
   goes = goes_silently g.R.Renderer.page g.N.Network.came g.N.Network.gone g.N.Network.wakes g.N.Network.is_free c.args.saved.now.hub
       c.args.saved.now.hub c.args.net.now c.args.peers.now refl
       (quiet_none (g.R.Renderer.page c.args.saved.now.hub.0) c.args.saved.now.hub.1 c.args.saved.now.hub.1 refl);
+  no_more = more_nobody c.args.peers.now;
   waits = waits_nobody c.args.peers.now;
   bound = λ le. le;
   most = refl;
@@ -32,6 +34,7 @@ accepts-preserved g c = record {
   goes = goes_join g.R.Renderer.page g.N.Network.came g.N.Network.gone g.N.Network.wakes g.N.Network.is_free c.args.saved.now.hub
       c.accepts.saved.hub c.accept_one.new.saved.hub c.args.net.now c.accepts.net c.accept_one.new.net c.args.peers.now c.accepts.peers
       c.accept_one.new.peers c.accepts.invariant.goes c.accept_one.ensures.goes;
+  no_more = more_join c.args.peers.now c.accepts.peers c.accept_one.new.peers c.accepts.invariant.no_more c.accept_one.ensures.no_more;
   waits = waits_join c.args.peers.now c.accepts.peers c.accept_one.new.peers c.accepts.invariant.waits c.accept_one.ensures.waits;
   bound = λ le.
       omega (arith, c.accept_one.ensures.more, c.is_open.ensures.room c.if-not-is_open.false, c.accepts.invariant.most);

@@ -5,6 +5,7 @@ use Rattle.doc_server_network.specs.Networks.{HasNobody, Recalls, WasAsked}
 use Rattle.doc_server_network.specs.Saved.{IsReady, StaysSaved}
 use Rattle.doc_server_serving.specs.Hearing.{WaitOn}
 use Rattle.doc_server_serving.specs.Invariants.{GoesOn}
+use Rattle.doc_server_serving.specs.Parts.{NoMore}
 use Rattle.doc_server_serving.specs.Sites.{IsSameSite}
 use Rattle.doc_server_serving.proofs.door.Door.accept.Given as goal
 
@@ -12,6 +13,7 @@ abbrev pub invariant-accepts : goal.invariant-accepts
 invariant-accepts g l = record {
   goes : GoesOn g.R.Renderer.page g.N.Network.came g.N.Network.gone g.N.Network.wakes g.N.Network.is_free l.fn.saved.hub l.saved.hub
       l.fn.net l.net l.fn.peers l.peers;
+  no_more : NoMore l.fn.peers l.peers;
   waits : WaitOn l.fn.peers l.peers;
   bound : map.len l.fn.peers ≤ l.fn.self.most → map.len l.peers ≤ l.fn.self.most;
   most : l.self.most ≡ l.fn.self.most;

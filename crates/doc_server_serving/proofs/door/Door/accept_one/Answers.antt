@@ -1,11 +1,13 @@
 use Rattle.std.proofs.Common.{subst, sym}
 use Rattle.doc_server_serving.specs.Hearing.{WaitOn}
 use Rattle.doc_server_serving.specs.Invariants.{GoesOn}
+use Rattle.doc_server_serving.specs.Parts.{NoMore}
 use Rattle.doc_server_serving.specs.Wirings.{Table, new_peer}
 use Rattle.doc_server_serving.proofs.Accepting.{free_number, goes_in, goes_not_in, goes_silently, quiet_connect, quiet_drop}
 use Rattle.doc_server_serving.proofs.Bounds.{as_many, none_more, one_more}
 use Rattle.doc_server_serving.proofs.Going.{goes_join}
 use Rattle.doc_server_serving.proofs.Minding.{waits_in, waits_join, waits_nobody, waits_out}
+use Rattle.doc_server_serving.proofs.Parting.{more_in, more_join, more_nobody, more_out}
 use Rattle.doc_server_serving.proofs.Sites.{connects_same, disconnects_same, same_join}
 use Rattle.doc_server_serving.proofs.door.Door.accept_one.Goals as goal
 
@@ -109,3 +111,20 @@ returns-clause-waits g c =
     waits_join c.args.peers.now c.admit.new.self c.remove.new.self
     (waits_in c.args.peers.now c.admit.new.self c.in-Ok.id.0 (c.admit.ensures.taken c.if-not-admit.false))
     (waits_out c.admit.new.self c.remove.new.self c.in-Ok.id.0 c.remove.ensures)
+
+pub returns-in_default-clause-no_more : goal.returns-in_default-clause-no_more
+returns-in_default-clause-no_more g c = more_nobody c.args.peers.now
+
+pub returns-then-not-admit-clause-no_more : goal.returns-then-not-admit-clause-no_more
+returns-then-not-admit-clause-no_more g c =
+    subst (NoMore c.args.peers.now) (sym (c.admit.ensures.refused c.if-not-admit.true)) (more_nobody c.args.peers.now)
+
+pub returns-then-asks-clause-no_more : goal.returns-then-asks-clause-no_more
+returns-then-asks-clause-no_more g c =
+    more_in c.args.peers.now c.admit.new.self c.in-Ok.id.0 (c.admit.ensures.taken c.if-not-admit.false)
+
+pub returns-clause-no_more : goal.returns-clause-no_more
+returns-clause-no_more g c =
+    more_join c.args.peers.now c.admit.new.self c.remove.new.self
+    (more_in c.args.peers.now c.admit.new.self c.in-Ok.id.0 (c.admit.ensures.taken c.if-not-admit.false))
+    (more_out c.admit.new.self c.remove.new.self c.in-Ok.id.0 c.remove.ensures)

@@ -1,10 +1,12 @@
-use Rattle.std.proofs.Common.{◌∙◌, ℕ, List, ap, arith, refl, subst, sym, take}
+use Rattle.std.proofs.Common.{◌∙◌, ℕ, List, [], ap, arith, refl, subst, sym, take}
 use Rattle.std.specs.Prelude.{Contains}
 use Rattle.std.proofs.lemmas.List.{take_more}
 use Rattle.std.proofs.Math.Seq.{take-length}
+use Rattle.doc_server_serving.specs.Parts.{StayBut}
 use Rattle.doc_server_serving.specs.Wirings.{EndAll}
 use Rattle.doc_server_serving.proofs.Ending.{ends_more}
 use Rattle.doc_server_serving.proofs.Hearing.{spares_join, spares_nobody}
+use Rattle.doc_server_serving.proofs.Parting.{stay_more, stay_nobody}
 use Rattle.doc_server_serving.proofs.Tables.{lingers_nothing, lingers_join}
 use Rattle.doc_server_serving.proofs.peers.Peers.finish_all.Goals as goal
 
@@ -14,6 +16,7 @@ numbers-init g c = record {
   ends = λ k among. absurd (omega (arith, among.1));
   gone = λ k. refl;
   spares = spares_nobody c.args.self.now;
+  others = stay_nobody [] c.args.self.now;
   woken = λ w. w;
   ended = λ k e. e;
   free = λ k f. f;
@@ -32,6 +35,10 @@ numbers-preserved g c = record {
       (subst (λ (xs : List ℕ). Contains xs k) (take_more c.args.ready.now c.numbers.id-index 0 c.numbers-test.true) among);
   gone = λ k. c.finish_at.ensures.gone k ∙ c.numbers.invariant.gone k;
   spares = spares_join c.args.self.now c.numbers.self c.finish_at.new.self c.numbers.invariant.spares c.finish_at.ensures.spares;
+  others = subst (λ (xs : List ℕ). StayBut xs c.args.self.now c.finish_at.new.self)
+      (sym (take_more c.args.ready.now c.numbers.id-index 0 c.numbers-test.true))
+      (stay_more (take c.numbers.id-index c.args.ready.now) _ c.args.self.now c.numbers.self c.finish_at.new.self c.numbers.invariant.others
+      c.finish_at.ensures.others);
   woken = λ w. c.finish_at.ensures.woken (c.numbers.invariant.woken w);
   ended = λ k e. c.finish_at.ensures.ended k (c.numbers.invariant.ended k e);
   free = λ k f. c.finish_at.ensures.free k (c.numbers.invariant.free k f);
@@ -45,3 +52,10 @@ returns-clause-ends g c =
     (ap (λ n. take n c.args.ready.now) (omega (arith, c.numbers-test.false, c.numbers.auto.id-index-end))
     ∙ take-length c.args.ready.now)
     c.numbers.invariant.ends
+
+pub returns-clause-others : goal.returns-clause-others
+returns-clause-others g c =
+    subst (λ (xs : List ℕ). StayBut xs c.args.self.now c.numbers.self)
+    (ap (λ n. take n c.args.ready.now) (omega (arith, c.numbers-test.false, c.numbers.auto.id-index-end))
+    ∙ take-length c.args.ready.now)
+    c.numbers.invariant.others

@@ -9,6 +9,7 @@ use Rattle.doc_server_serving.specs.Hearing.{SparesAll}
 use Rattle.doc_server_serving.specs.Wirings.{Peer}
 use Rattle.doc_server_serving.proofs.Ending.{ends_here, ends_nobody}
 use Rattle.doc_server_serving.proofs.Hearing.{spares_at, spares_nobody}
+use Rattle.doc_server_serving.proofs.Parting.{others_in, others_none}
 use Rattle.doc_server_serving.proofs.Tables.{woken_at, lingers_at}
 use Rattle.doc_server_serving.proofs.peers.Peers.finish_at.Goals as goal
 
@@ -69,3 +70,17 @@ returns-in_default-clause-ends g c =
     ends_nobody c.args.self.now _ c.args.id
     (ap (λ m. map.get m c.args.id) (sym c.self.view_is)
     ∙ sym (looked_up nat_cmp_total exact_unsigned c.self.inside.clients.entries c.args.id) ∙ sym c.in_default.ensures.value)
+
+pub returns-clause-others : goal.returns-clause-others
+returns-clause-others g c =
+    let es = c.self.inside.clients.entries in
+    let h = c.in-Some.ensures.value in
+    let k = (c.get_mut.follows.holds c.finish.new.self).3 in
+    others_in c.args.self.now _ c.args.id c.finish.new.self
+    (inserted nat_cmp_total exact_unsigned es (c.get_mut.follows.lender c.finish.new.self).entries c.args.id c.finish.new.self
+    (k (rw (← h) refl)).0 ∙ ap (λ m. map.insert m c.args.id c.finish.new.self) c.self.view_is)
+
+pub returns-in_default-clause-others : goal.returns-in_default-clause-others
+returns-in_default-clause-others g c =
+    others_none c.args.self.now _ c.args.id
+    (ap (λ (t : BTreeMap ℕ Peer). map.from_entries {R = nat_cmp} t.entries) c.get_mut.follows.holds-at-none ∙ c.self.view_is)

@@ -1,6 +1,7 @@
 use Rattle.std.proofs.Common.{take}
 use Rattle.doc_server_network.specs.Networks.{Recalls, Rests, Stays}
 use Rattle.doc_server_serving.specs.Hearing.{SparesAll}
+use Rattle.doc_server_serving.specs.Parts.{StayBut}
 use Rattle.doc_server_serving.specs.Wirings.{AreWoken, Gives, HaveSent}
 use Rattle.doc_server_serving.proofs.peers.Peers.send_all.Given as goal
 
@@ -10,6 +11,7 @@ invariant-numbers g l = record {
   sent : HaveSent (take l.id-index l.ready) l.self;
   came : Rests (g.N.Network.came l.fn.net) (g.N.Network.came l.net);
   spares : SparesAll l.fn.self l.self;
+  others : StayBut (take l.id-index l.ready) l.fn.self l.self;
   woken : AreWoken (g.N.Network.wakes l.fn.net) l.fn.self → AreWoken (g.N.Network.wakes l.net) l.self;
   ended : Stays (g.N.Network.has_ended l.fn.net) (g.N.Network.has_ended l.net);
   free : Stays (g.N.Network.is_free l.fn.net) (g.N.Network.is_free l.net);

@@ -1,7 +1,9 @@
 use Rattle.std.proofs.Common.{ℕ, List, [], refl, ap, arith, sym, subst, take, ◌∙◌}
 use Rattle.std.proofs.Math.Seq.{take-length}
 use Rattle.std.proofs.lemmas.List.{take_more}
+use Rattle.doc_server_serving.specs.Parts.{StayBut}
 use Rattle.doc_server_serving.proofs.Hearing.{all_hear_nothing}
+use Rattle.doc_server_serving.proofs.Parting.{stay_more, stay_nobody}
 use Rattle.doc_server_serving.proofs.TableServing.{AllSharing, all_sharing_join, serves_nobody, shares_none}
 use Rattle.doc_server_serving.proofs.peers.Peers.take_in_all.Goals as goal
 
@@ -14,6 +16,7 @@ numbers-init g c = record {
     all_hear_nothing c.args.self.now,
   );
   gone = λ k. refl;
+  others = stay_nobody [] c.args.self.now;
   woken = λ w. w;
   ended = λ k e. e;
   free = λ k f. f;
@@ -38,6 +41,10 @@ numbers-preserved g c = record {
       c.take_in_at.new.self c.args.share.now c.numbers.share c.take_in_at.new.share c.numbers.invariant.same
       c.take_in_at.ensures.ended c.numbers.invariant.serves c.take_in_at.ensures.serves);
   gone = λ k. c.take_in_at.ensures.gone k ∙ c.numbers.invariant.gone k;
+  others = subst (λ (xs : List ℕ). StayBut xs c.args.self.now c.take_in_at.new.self)
+      (sym (take_more c.args.ready.now c.numbers.id-index 0 c.numbers-test.true))
+      (stay_more (take c.numbers.id-index c.args.ready.now) _ c.args.self.now c.numbers.self c.take_in_at.new.self c.numbers.invariant.others
+      c.take_in_at.ensures.others);
   woken = λ w. c.take_in_at.ensures.woken (c.numbers.invariant.woken w);
   ended = λ k e. c.take_in_at.ensures.ended k (c.numbers.invariant.ended k e);
   free = λ k f. c.take_in_at.ensures.free k (c.numbers.invariant.free k f);
@@ -56,3 +63,10 @@ returns-clause-serves g c =
     c.numbers.self c.args.share.now c.numbers.share)
     (ap (λ n. take n c.args.ready.now) (omega (arith, c.numbers-test.false, c.numbers.auto.id-index-end)) ∙ take-length c.args.ready.now)
     c.numbers.invariant.serves
+
+pub returns-clause-others : goal.returns-clause-others
+returns-clause-others g c =
+    subst (λ (xs : List ℕ). StayBut xs c.args.self.now c.numbers.self)
+    (ap (λ n. take n c.args.ready.now) (omega (arith, c.numbers-test.false, c.numbers.auto.id-index-end))
+    ∙ take-length c.args.ready.now)
+    c.numbers.invariant.others

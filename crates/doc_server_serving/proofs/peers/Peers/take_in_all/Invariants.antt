@@ -1,6 +1,7 @@
 use Rattle.std.proofs.Common.{◌≡◌, length, take}
 use Rattle.doc_server_network.specs.Networks.{Recalls, Rests, Stays}
 use Rattle.doc_server_network.specs.Saved.{IsReady, StaysSaved}
+use Rattle.doc_server_serving.specs.Parts.{StayBut}
 use Rattle.doc_server_serving.specs.Wirings.{AreWoken}
 use Rattle.doc_server_serving.proofs.TableServing.{AllSharing}
 use Rattle.doc_server_serving.proofs.peers.Peers.take_in_all.Given as goal
@@ -10,6 +11,7 @@ invariant-numbers g l = record {
   serves : AllSharing (g.R.Renderer.page l.fn.saved.hub.0) l.fn.saved.hub.1 l.saved.hub.1 (take l.id-index l.ready)
       (g.N.Network.came l.fn.net) (g.N.Network.came l.net) (g.N.Network.has_ended l.net) l.fn.self l.self l.fn.share l.share;
   gone : Rests (g.N.Network.gone l.fn.net) (g.N.Network.gone l.net);
+  others : StayBut (take l.id-index l.ready) l.fn.self l.self;
   woken : AreWoken (g.N.Network.wakes l.fn.net) l.fn.self → AreWoken (g.N.Network.wakes l.net) l.self;
   ended : Stays (g.N.Network.has_ended l.fn.net) (g.N.Network.has_ended l.net);
   free : Stays (g.N.Network.is_free l.fn.net) (g.N.Network.is_free l.net);

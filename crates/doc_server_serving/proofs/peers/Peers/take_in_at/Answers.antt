@@ -9,6 +9,7 @@ use Rattle.doc_server_listen.specs.Costs.{Left}
 use Rattle.doc_server_serving.specs.Wirings.{Peer, Table}
 use Rattle.doc_server_serving.proofs.Hearing.{nobody_hears, one_hears}
 use Rattle.doc_server_serving.proofs.TableServing.{AllSharing, serves_at, serves_nobody, shares_none, shares_one}
+use Rattle.doc_server_serving.proofs.Parting.{others_in, others_none}
 use Rattle.doc_server_serving.proofs.Tables.{woken_at}
 use Rattle.doc_server_serving.proofs.peers.Peers.take_in_at.Goals as goal
 
@@ -57,3 +58,17 @@ returns-clause-woken g c =
     (inserted nat_cmp_total exact_unsigned es (c.get_mut.follows.lender c.take_in.new.self).entries c.args.id c.take_in.new.self
     (k (rw (← h) refl)).0 ∙ ap (λ m. map.insert m c.args.id c.take_in.new.self) c.self.view_is)
     c.take_in.ensures.woken c.take_in.ensures.wakes
+
+pub returns-clause-others : goal.returns-clause-others
+returns-clause-others g c =
+    let es = c.self.inside.clients.entries in
+    let h = c.in-Some.ensures.value in
+    let k = (c.get_mut.follows.holds c.take_in.new.self).3 in
+    others_in c.args.self.now _ c.args.id c.take_in.new.self
+    (inserted nat_cmp_total exact_unsigned es (c.get_mut.follows.lender c.take_in.new.self).entries c.args.id c.take_in.new.self
+    (k (rw (← h) refl)).0 ∙ ap (λ m. map.insert m c.args.id c.take_in.new.self) c.self.view_is)
+
+pub returns-in_default-clause-others : goal.returns-in_default-clause-others
+returns-in_default-clause-others g c =
+    others_none c.args.self.now _ c.args.id
+    (ap (λ (t : BTreeMap ℕ Peer). map.from_entries {R = nat_cmp} t.entries) c.get_mut.follows.holds-at-none ∙ c.self.view_is)

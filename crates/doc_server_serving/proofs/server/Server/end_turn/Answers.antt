@@ -4,6 +4,7 @@ use Rattle.doc_server_serving.proofs.Asking.{asked_below, none_less}
 use Rattle.doc_server_serving.proofs.Fewer.{fewer_swept}
 use Rattle.doc_server_serving.proofs.Going.{goes_join, goes_swept}
 use Rattle.doc_server_serving.proofs.Minding.{waits_join, waits_swept}
+use Rattle.doc_server_serving.proofs.Parting.{minded_more}
 use Rattle.doc_server_serving.proofs.Sites.{same_join}
 use Rattle.doc_server_serving.proofs.server.Server.end_turn.Goals as goal
 
@@ -84,3 +85,9 @@ returns-clause-asked g c =
     (none_less g.R.Renderer.page g.N.Network.came g.N.Network.gone g.N.Network.wakes g.N.Network.is_free c.args.saved.now.hub
     c.let_over_go.new.saved.hub c.args.net.now c.let_over_go.new.net c.sweep.new.self.peers c.let_over_go.new.self.peers
     c.let_over_go.ensures.goes) (c.accept.ensures.asked still)
+
+pub returns-clause-minds : goal.returns-clause-minds
+returns-clause-minds g c =
+    λ minded.
+    minded_more c.sweep.new.self.peers c.accept.new.peers c.sweep.new.next.goes_on
+    (λ k part. c.let_over_go.ensures.no_more k (c.accept.ensures.no_more k part)) (c.in_ok-is_swept.ensures.minds minded)

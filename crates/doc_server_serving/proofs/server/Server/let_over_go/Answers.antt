@@ -3,6 +3,7 @@ use Rattle.doc_server_serving.proofs.Accepting.{goes_silently, quiet_none}
 use Rattle.doc_server_serving.proofs.Fewer.{fewer_turned}
 use Rattle.doc_server_serving.proofs.Going.{goes_turns}
 use Rattle.doc_server_serving.proofs.Minding.{waits_nobody}
+use Rattle.doc_server_serving.proofs.Parting.{more_nobody}
 use Rattle.doc_server_serving.proofs.Sites.{same_site}
 use Rattle.doc_server_serving.proofs.server.Server.let_over_go.Goals as goal
 
@@ -42,3 +43,9 @@ returns-then-not-looks-clause-waits g c = waits_nobody c.args.self.now.peers
 
 pub returns-in_err-collect_over-clause-waits : goal.returns-in_err-collect_over-clause-waits
 returns-in_err-collect_over-clause-waits g c = waits_nobody c.args.self.now.peers
+
+pub returns-then-not-looks-clause-no_more : goal.returns-then-not-looks-clause-no_more
+returns-then-not-looks-clause-no_more g c = more_nobody c.args.self.now.peers
+
+pub returns-in_err-collect_over-clause-no_more : goal.returns-in_err-collect_over-clause-no_more
+returns-in_err-collect_over-clause-no_more g c = more_nobody c.args.self.now.peers

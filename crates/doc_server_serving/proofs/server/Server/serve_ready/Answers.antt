@@ -1,8 +1,7 @@
 use Rattle.std.proofs.Common.{◌++◌, ◌∙◌, ℕ, List, ap, refl, subst, sym}
 use Rattle.std.specs.Prelude.{Contains}
 use Rattle.std.specs.FinMap as map
-use Rattle.doc_server_serving.specs.Parts.{turn_of}
-use Rattle.doc_server_serving.specs.Sharing.{times_among}
+use Rattle.doc_server_serving.specs.Parts.{times_among, turn_of}
 use Rattle.doc_server_serving.proofs.Accepting.{goes_silently, quiet_none}
 use Rattle.doc_server_serving.proofs.Crashing.{nothing_written, room_behind}
 use Rattle.doc_server_serving.proofs.Fewer.{fewer_turned}
@@ -10,6 +9,7 @@ use Rattle.doc_server_serving.proofs.Going.{goes_join, goes_turns}
 use Rattle.doc_server_serving.proofs.Hearing.{all_heard, heard_longer}
 use Rattle.doc_server_serving.proofs.Listed.{among_them, listed}
 use Rattle.doc_server_serving.proofs.Minding.{waits_nobody}
+use Rattle.doc_server_serving.proofs.Parting.{minded_served}
 use Rattle.doc_server_serving.proofs.server.Server.serve_ready.Goals as goal
 
 pub turn-requires-clause-all : goal.turn-requires-clause-all
@@ -90,21 +90,21 @@ returns-clause-fewer g c =
 
 pub returns-then-eq-clause-list : goal.returns-then-eq-clause-list
 returns-then-eq-clause-list g c =
-    c.in_ok-collect.ensures ∙ ap (λ (xs : List ℕ). xs ++ turn_of c.args.self.now.first c.args.self.now.peers) c.clear.ensures.items
+    c.in_ok-collect.ensures ∙ ap (λ (xs : List ℕ). xs ++ turn_of c.args.next.now.first c.args.self.now.peers) c.clear.ensures.items
 
 pub returns-then-eq-clause-each : goal.returns-then-eq-clause-each
 returns-then-eq-clause-each g c =
-    let list = c.in_ok-collect.ensures ∙ ap (λ (xs : List ℕ). xs ++ turn_of c.args.self.now.first c.args.self.now.peers) c.clear.ensures.items in
-    λ k. ap (λ (xs : List ℕ). times_among xs k) list ∙ listed c.args.self.now.first c.args.self.now.peers k
+    let list = c.in_ok-collect.ensures ∙ ap (λ (xs : List ℕ). xs ++ turn_of c.args.next.now.first c.args.self.now.peers) c.clear.ensures.items in
+    λ k. ap (λ (xs : List ℕ). times_among xs k) list ∙ listed c.args.next.now.first c.args.self.now.peers k
 
 pub returns-clause-list : goal.returns-clause-list
 returns-clause-list g c =
-    c.in_ok-collect.ensures ∙ ap (λ (xs : List ℕ). xs ++ turn_of c.args.self.now.first c.args.self.now.peers) c.clear.ensures.items
+    c.in_ok-collect.ensures ∙ ap (λ (xs : List ℕ). xs ++ turn_of c.args.next.now.first c.args.self.now.peers) c.clear.ensures.items
 
 pub returns-clause-each : goal.returns-clause-each
 returns-clause-each g c =
-    let list = c.in_ok-collect.ensures ∙ ap (λ (xs : List ℕ). xs ++ turn_of c.args.self.now.first c.args.self.now.peers) c.clear.ensures.items in
-    λ k. ap (λ (xs : List ℕ). times_among xs k) list ∙ listed c.args.self.now.first c.args.self.now.peers k
+    let list = c.in_ok-collect.ensures ∙ ap (λ (xs : List ℕ). xs ++ turn_of c.args.next.now.first c.args.self.now.peers) c.clear.ensures.items in
+    λ k. ap (λ (xs : List ℕ). times_among xs k) list ∙ listed c.args.next.now.first c.args.self.now.peers k
 
 pub returns-in_err-collect-clause-any_moment : goal.returns-in_err-collect-clause-any_moment
 returns-in_err-collect-clause-any_moment g c =
@@ -138,13 +138,13 @@ pub returns-then-eq-clause-heard : goal.returns-then-eq-clause-heard
 returns-then-eq-clause-heard g c =
     let P = g.R.Renderer.page in let C = g.N.Network.came in let G = g.N.Network.gone in
     let W = g.N.Network.wakes in let F = g.N.Network.is_free in
-    let list = c.in_ok-collect.ensures ∙ ap (λ (xs : List ℕ). xs ++ turn_of c.args.self.now.first c.args.self.now.peers) c.clear.ensures.items in (
+    let list = c.in_ok-collect.ensures ∙ ap (λ (xs : List ℕ). xs ++ turn_of c.args.next.now.first c.args.self.now.peers) c.clear.ensures.items in (
       goes_turns P C G W F c.args.saved.now.hub c.turn.new.saved.hub c.args.net.now c.turn.new.net c.args.self.now.peers c.turn.new.peers
           c.turn.ensures.same c.turn.ensures.woken c.turn.ensures.free _ c.turn.ensures.turns.0,
       all_heard c.as_slice.result.now c.turn.ensures.turns.0.run c.args.self.now.peers c.turn.new.peers
           (λ k part.
           subst (λ (xs : List ℕ). Contains xs k) (sym (c.as_slice.ensures.value ∙ list))
-          (among_them c.args.self.now.first c.args.self.now.peers k part))
+          (among_them c.args.next.now.first c.args.self.now.peers k part))
           c.turn.ensures.turns.3,
     )
 
@@ -152,7 +152,7 @@ pub returns-clause-heard : goal.returns-clause-heard
 returns-clause-heard g c =
     let P = g.R.Renderer.page in let C = g.N.Network.came in let G = g.N.Network.gone in
     let W = g.N.Network.wakes in let F = g.N.Network.is_free in
-    let list = c.in_ok-collect.ensures ∙ ap (λ (xs : List ℕ). xs ++ turn_of c.args.self.now.first c.args.self.now.peers) c.clear.ensures.items in (
+    let list = c.in_ok-collect.ensures ∙ ap (λ (xs : List ℕ). xs ++ turn_of c.args.next.now.first c.args.self.now.peers) c.clear.ensures.items in (
       goes_join P C G W F c.args.saved.now.hub c.turn.new.saved.hub c.keep_room.new.saved.hub c.args.net.now c.turn.new.net c.turn.new.net
           c.args.self.now.peers c.turn.new.peers c.turn.new.peers
           (goes_turns P C G W F c.args.saved.now.hub c.turn.new.saved.hub c.args.net.now c.turn.new.net c.args.self.now.peers c.turn.new.peers
@@ -165,9 +165,29 @@ returns-clause-heard g c =
           (all_heard c.as_slice.result.now c.turn.ensures.turns.0.run c.args.self.now.peers c.turn.new.peers
           (λ k part.
           subst (λ (xs : List ℕ). Contains xs k) (sym (c.as_slice.ensures.value ∙ list))
-          (among_them c.args.self.now.first c.args.self.now.peers k part))
+          (among_them c.args.next.now.first c.args.self.now.peers k part))
           c.turn.ensures.turns.3 k),
     )
 
 pub returns-in_err-collect-clause-waits : goal.returns-in_err-collect-clause-waits
 returns-in_err-collect-clause-waits g c = waits_nobody c.args.self.now.peers
+
+pub returns-then-eq-clause-minds : goal.returns-then-eq-clause-minds
+returns-then-eq-clause-minds g c =
+    let list = c.in_ok-collect.ensures ∙ ap (λ (xs : List ℕ). xs ++ turn_of c.args.next.now.first c.args.self.now.peers) c.clear.ensures.items in
+    minded_served c.as_slice.result.now c.args.self.now.peers c.turn.new.peers c.goes_on.result
+    (λ k. ap (λ (xs : List ℕ). times_among xs k) (c.as_slice.ensures.value ∙ list) ∙ listed c.args.next.now.first c.args.self.now.peers k)
+    (λ k part.
+    subst (λ (xs : List ℕ). Contains xs k) (sym (c.as_slice.ensures.value ∙ list))
+    (among_them c.args.next.now.first c.args.self.now.peers k part))
+    c.turn.ensures.others ?
+
+pub returns-clause-minds : goal.returns-clause-minds
+returns-clause-minds g c =
+    let list = c.in_ok-collect.ensures ∙ ap (λ (xs : List ℕ). xs ++ turn_of c.args.next.now.first c.args.self.now.peers) c.clear.ensures.items in
+    minded_served c.as_slice.result.now c.args.self.now.peers c.turn.new.peers c.goes_on.result
+    (λ k. ap (λ (xs : List ℕ). times_among xs k) (c.as_slice.ensures.value ∙ list) ∙ listed c.args.next.now.first c.args.self.now.peers k)
+    (λ k part.
+    subst (λ (xs : List ℕ). Contains xs k) (sym (c.as_slice.ensures.value ∙ list))
+    (among_them c.args.next.now.first c.args.self.now.peers k part))
+    c.turn.ensures.others ?

@@ -276,3 +276,6 @@ returns-clause-asked g c =
     c.look.ensures.same c.look.ensures.quiet (g.N.Network.has_ended c.wake_told-news.new.net) c.wake_told-news.ensures.gives
     c.wake_told-news.ensures.came c.wake_told-news.ensures.gone c.wake_told-news.ensures.woken c.wake_told-news.ensures.free)
     c.serve_ready.ensures.goes)) (c.in_ok-end_turn.ensures.asked still)
+
+pub returns-clause-minds : goal.returns-clause-minds
+returns-clause-minds g c = λ ends. c.in_ok-end_turn.ensures.minds c.in_ok-serve_ready.ensures.minds

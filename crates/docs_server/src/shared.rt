@@ -1,0 +1,43 @@
+//! What who reads the configuration anew tells the log and the door for monitors.
+
+use doc_server_log_names::names::Names;
+use doc_server_status::standing::Standing;
+use std::cell::Cell;
+
+/// What who reads the configuration anew tells others.
+#[derive(Drop)]
+pub struct Shared {
+    /// The names of new readers, until the log takes them.
+    pub names: Cell<Option<Names>>,
+    /// What stands, and what came of reloads.
+    pub standing: Cell<Standing>,
+}
+
+impl Shared {
+    /// Nothing is told yet.
+    pub fn new() -> Shared {
+        Shared {
+            names: Cell::new(None),
+            standing: Cell::new(Standing::NONE),
+        }
+    }
+
+    /// A reload took readers, or was refused.
+    pub fn tell_reload(&self, is_taken: bool) {
+        let mut standing = self.standing.get();
+        if is_taken {
+            standing.reloads_done = standing.reloads_done.saturating_add(1);
+        } else {
+            standing.reloads_refused = standing.reloads_refused.saturating_add(1);
+        }
+        self.standing.set(standing);
+    }
+
+    /// So many pages stand, and where there is a journal its records end behind so many bytes.
+    pub fn tell_standing(&self, pages: usize, journal_bytes: Option<usize>) {
+        let mut standing = self.standing.get();
+        standing.pages = pages as u64;
+        standing.journal_bytes = journal_bytes.unwrap_or(0) as u64;
+        self.standing.set(standing);
+    }
+}
