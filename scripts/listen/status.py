@@ -1,11 +1,12 @@
 """The door for monitors beside `listen`: health, counters as Prometheus reads them, and what isn't there. What it counts is what clients
-were answered; no path, name, group or token stands in it; who comes by it and says nothing holds up nobody.
+were answered, and what stands: pages, the journal's records, reloads; no path, name, group or token stands in it; who comes by it and says
+nothing holds up nobody.
 
     python3 scripts/listen/status.py PROGRAM
 
 Builds nothing. Needs python3. Some seconds.
 """
-import os, socket, sys, time
+import os, re, socket, sys, time
 sys.path.insert(1, os.path.dirname(__file__) + "/../lib")
 from scene import HOST, OWNER, Client, Refused, Scene, free_port, put, request, until
 import prometheus
@@ -13,6 +14,12 @@ import prometheus
 scene = Scene(seconds=200)
 PAGE = '[[page]]\npath = "secret-plan.md"\ngroups = ["inner-circle"]\ntext = "A plan"\n'
 LARGE = '[[page]]\npath = "large.md"\ntext = "' + "word " * 40_000 + '"\n'
+# its pages are two
+SITE = OWNER + PAGE + LARGE
+# the metrics in their order, and their kinds
+METRICS = [("docs_requests_total", "counter"), ("docs_unauthorized_total", "counter"), ("docs_bytes_total", "counter"),
+           ("docs_connections", "gauge"), ("docs_connections_most", "gauge"), ("docs_turn_seconds_max", "gauge"),
+           ("docs_pages", "gauge"), ("docs_journal_bytes", "gauge"), ("docs_reload_total", "counter")]
 
 
 def ask(port, data, seconds=10):
@@ -38,18 +45,35 @@ def get(port, target, method="GET"):
 class Watched:
     """A server with a door for monitors."""
 
-    def __init__(self, options=()):
-        put("site.toml", OWNER + PAGE + LARGE)
+    def __init__(self, options=(), journal=None):
+        put("site.toml", SITE)
         self.door = free_port()
-        self.server = scene.listen("site.toml", options=["--status", f"{HOST}:{self.door}", *options])
+        self.server = scene.listen("site.toml", journal=journal, options=["--status", f"{HOST}:{self.door}", *options])
 
     def counted(self):
         """The samples of the metrics, by name and labels."""
         code, head, body = get(self.door, "/metrics")
         scene.check("the metrics' head", code == 200 and "\r\nContent-Type: text/plain; version=0.0.4; charset=utf-8\r\n" in head + "\r\n", head)
         families = prometheus.parse(body.decode())
+        metrics = [(name, family.kind) for name, family in families.items()]
+        scene.check("the metrics", metrics == METRICS, metrics)
         return {(name, *(value for _, value in labels)): sample for family in families.values()
                 for (name, labels), sample in family.samples.items()}
+
+    def comes(self, name, value):
+        """Whether a metric of one sample comes to have this value: what stands is told behind a turn."""
+        return until(lambda: self.counted()[(name,)] == value, 5)
+
+    def reloads(self, done, refused):
+        """Whether it comes to tell of so many reloads."""
+        return until(lambda: [self.counted()[("docs_reload_total", it)] for it in ("done", "refused")] == [done, refused], 5)
+
+    def hears(self, line, told):
+        """Writes a line on its standard input: whether what it prints then comes to end in this."""
+        before = len(self.server.said())
+        self.server.process.stdin.write(line)
+        self.server.process.stdin.flush()
+        return until(lambda: self.server.said()[before:].endswith(told), 10)
 
     def ends(self, name):
         scene.check(f"{name}: the end", self.server.end() == 0 and self.server.said() == "", self.server.said())
@@ -88,7 +112,7 @@ def counters():
     """What is counted is what clients were answered."""
     site = Watched(["--log"])
     before = site.counted()
-    scene.check("nothing yet", not any(value for name, value in before.items() if name != ("docs_turn_seconds_max",)), before)
+    scene.check("nothing yet", not any(value for name, value in before.items() if name not in (("docs_turn_seconds_max",), ("docs_pages",))), before)
     clients = [Client(site.server.port, token) for token in ("tok", "tok", "wrong")]
     sent = [0, 0]
     for client, target, method in ((clients[0], "/page/secret-plan.md", "GET"), (clients[0], "/page/none.md", "GET"),
@@ -112,6 +136,61 @@ def counters():
     for it in ("tok", "secret", "plan", "inner", "wrong", "large"):
         scene.check(f"{it} stands nowhere", it not in text)
     scene.check("the end", site.server.end() == 0)
+
+
+def pages():
+    """Pages are counted as an owner sees them; edits leave no bytes where there is no journal."""
+    site = Watched()
+    owner = Client(site.server.port, "tok")
+    for name, target, method, code, count in (("at the start", "/page/large.md", "GET", 200, 2), ("one more", "/page/n.md", "PUT", 201, 3),
+                                              ("another text", "/page/n.md", "PUT", 204, 3), ("one less", "/page/large.md", "DELETE", 204, 2)):
+        scene.check(f"pages: {name}: the reply", owner.ask(target, method, b"New" if method == "PUT" else b"")[0] == code)
+        scene.check(f"pages: {name}", site.comes("docs_pages", count), site.counted())
+        listed = set(re.findall(rb'href="(/page/[^"#]*)', owner.ask("/contents")[2]))
+        scene.check(f"pages: {name}: as an owner sees them", len(listed) == count, listed)
+    scene.check("pages: no journal", site.counted()[("docs_journal_bytes",)] == 0)
+    site.ends("pages")
+
+
+def records():
+    """The journal's records are longer behind an edit, and behind nothing else; the next start finds them so."""
+    site = Watched(journal="journal")
+    scene.check("records: at the start", site.comes("docs_pages", 2), site.counted())
+    before = site.counted()[("docs_journal_bytes",)]
+    owner, nobody = Client(site.server.port, "tok"), Client(site.server.port, "wrong")
+    scene.check("records: no edit: the replies", [owner.ask("/page/large.md")[0], nobody.ask("/page/n.md", "PUT", b"New")[0]] == [200, 401])
+    scene.check("records: no edit", site.counted()[("docs_journal_bytes",)] == before)
+    scene.check("records: an edit: the reply", owner.ask("/page/n.md", "PUT", b"New")[0] == 201)
+    scene.check("records: an edit", until(lambda: site.counted()[("docs_journal_bytes",)] > before, 5), site.counted())
+    found = site.counted()
+    scene.check("records: the page", found[("docs_pages",)] == 3, found)
+    behind = found[("docs_journal_bytes",)]
+    scene.check("records: what stands behind them isn't counted", behind < os.path.getsize("journal"), behind)
+    scene.ends(site.server, "records")
+    again = Watched(journal="journal")
+    scene.check("records: behind a start: the pages", again.comes("docs_pages", 3), again.counted())
+    scene.check("records: behind a start", again.counted()[("docs_journal_bytes",)] == behind, again.counted())
+    scene.ends(again.server, "records: behind a start")
+
+
+def reloads():
+    """Reloads are counted by what came of them."""
+    site = Watched()
+    more = SITE + '[[reader]]\ntoken = "tok-more"\ngroups = []\n'
+    scene.check("reloads: at the start", site.reloads(0, 0), site.counted())
+    for name, text, line, told, done, refused in (
+        ("a reader more", more, b"reload\n", "reload: 2 readers\n", 1, 0),
+        ("no change", more, b"reload\n", "reload: nothing has changed\n", 1, 0),
+        ("a typo", more + "x =\n", b"reload\n", "\nreload refused: config\n", 1, 1),
+        ("another line", more, b"relaod\n", "unknown line\n", 1, 1),
+        ("a setting more", "keep_alive = true\n" + more, b"reload\n", "reload refused: needs a restart: `keep_alive`\n", 1, 2),
+        ("a reader less", SITE, b"reload\n", "reload: 1 readers\n", 2, 2),
+    ):
+        put("site.toml", text)
+        scene.check(f"reloads: {name}: told", site.hears(line, told), site.server.said())
+        scene.check(f"reloads: {name}", site.reloads(done, refused), site.counted())
+    scene.check("reloads: pages stay", site.counted()[("docs_pages",)] == 2)
+    scene.check("reloads: the end", site.server.end() == 0)
 
 
 def silent():
@@ -145,7 +224,7 @@ def taken():
 
 
 def main():
-    for it in (replies, counters, silent, taken):
+    for it in (replies, counters, pages, records, reloads, silent, taken):
         it()
 
 

@@ -6,13 +6,13 @@ use Rattle.doc_server_status.specs.declared.counters.Counters.{Counters}
 use Rattle.doc_server_status.specs.Counts.{after_join, after_reply, no_replies, nothing_counted, replies_with}
 use Rattle.doc_server_status.specs.Cuts.{cut_at}
 use Rattle.doc_server_status.specs.Door.{replied_to, said_at, said_to, status_reply}
-use Rattle.doc_server_status.specs.Metrics.{connection_metrics, heading, metric, metrics_text, reply_metrics, requests_metric, sample, turn_metric}
+use Rattle.doc_server_status.specs.Metrics.{connection_metrics, heading, metric, metrics_text, reload_metric, reply_metrics, requests_metric, sample, standing_metrics, turn_metric}
 use Rattle.doc_server_status.specs.Replies.{head_of, length_line, reason_of, status_line, type_line, written}
 use Rattle.doc_server_status.specs.RequestLines.{asked_in}
 
 -- one name to unfold where an example computes
 unfoldable computing : Unit {0}
-unfolding asked_in connection_metrics cut_at digits head_of heading length_line metric metrics_text reason_of replied_to reply_metrics requests_metric said_at said_to sample status_line status_reply turn_metric type_line written
+unfolding asked_in connection_metrics cut_at digits head_of heading length_line metric metrics_text reason_of reload_metric replied_to reply_metrics requests_metric said_at said_to sample standing_metrics status_line status_reply turn_metric type_line written
 computing = tt
 
 abbrev much_counted : Counters
@@ -23,6 +23,7 @@ much_counted = record {
   connections = 7;
   connections_most = 8;
   turn_micros_most = 184;
+  standing = record { pages = 9; journal_bytes = 10240; reloads_done = 11; reloads_refused = 12 };
 }
 
 -- ---- health: the same whatever is counted
@@ -48,7 +49,7 @@ head_of_health counters = refl
 -- ---- metrics
 
 metrics_of_nothing : status_reply (codes "GET /metrics HTTP/1.1") nothing_counted
-    ≡ Some (codes "HTTP/1.1 200 OK\r\nContent-Type: text/plain; version=0.0.4; charset=utf-8\r\nContent-Length: 844\r\n"
+    ≡ Some (codes "HTTP/1.1 200 OK\r\nContent-Type: text/plain; version=0.0.4; charset=utf-8\r\nContent-Length: 1213\r\n"
     ++ codes "Connection: close\r\n\r\n"
     ++ codes "# HELP docs_requests_total Requests that were answered, by the class of the code.\n"
     ++ codes "# TYPE docs_requests_total counter\ndocs_requests_total{class=\"2xx\"} 0\n"
@@ -61,12 +62,18 @@ metrics_of_nothing : status_reply (codes "GET /metrics HTTP/1.1") nothing_counte
     ++ codes "# HELP docs_connections_most Connections that stood at once at most.\n"
     ++ codes "# TYPE docs_connections_most gauge\ndocs_connections_most 0\n"
     ++ codes "# HELP docs_turn_seconds_max Seconds of the longest turn since the last look.\n"
-    ++ codes "# TYPE docs_turn_seconds_max gauge\ndocs_turn_seconds_max 0e-6\n")
+    ++ codes "# TYPE docs_turn_seconds_max gauge\ndocs_turn_seconds_max 0e-6\n"
+    ++ codes "# HELP docs_pages Pages that stand.\n# TYPE docs_pages gauge\ndocs_pages 0\n"
+    ++ codes "# HELP docs_journal_bytes Bytes of the journal's records.\n"
+    ++ codes "# TYPE docs_journal_bytes gauge\ndocs_journal_bytes 0\n"
+    ++ codes "# HELP docs_reload_total Lines `reload` that were heard, by what came of them.\n"
+    ++ codes "# TYPE docs_reload_total counter\ndocs_reload_total{result=\"done\"} 0\n"
+    ++ codes "docs_reload_total{result=\"refused\"} 0\n")
 unfolding computing
 metrics_of_nothing = refl
 
 metrics_of_all : status_reply (codes "GET /metrics HTTP/1.1") much_counted
-    ≡ Some (codes "HTTP/1.1 200 OK\r\nContent-Type: text/plain; version=0.0.4; charset=utf-8\r\nContent-Length: 865\r\n"
+    ≡ Some (codes "HTTP/1.1 200 OK\r\nContent-Type: text/plain; version=0.0.4; charset=utf-8\r\nContent-Length: 1240\r\n"
     ++ codes "Connection: close\r\n\r\n"
     ++ codes "# HELP docs_requests_total Requests that were answered, by the class of the code.\n"
     ++ codes "# TYPE docs_requests_total counter\ndocs_requests_total{class=\"2xx\"} 18446744073709551615\n"
@@ -79,12 +86,18 @@ metrics_of_all : status_reply (codes "GET /metrics HTTP/1.1") much_counted
     ++ codes "# HELP docs_connections_most Connections that stood at once at most.\n"
     ++ codes "# TYPE docs_connections_most gauge\ndocs_connections_most 8\n"
     ++ codes "# HELP docs_turn_seconds_max Seconds of the longest turn since the last look.\n"
-    ++ codes "# TYPE docs_turn_seconds_max gauge\ndocs_turn_seconds_max 184e-6\n")
+    ++ codes "# TYPE docs_turn_seconds_max gauge\ndocs_turn_seconds_max 184e-6\n"
+    ++ codes "# HELP docs_pages Pages that stand.\n# TYPE docs_pages gauge\ndocs_pages 9\n"
+    ++ codes "# HELP docs_journal_bytes Bytes of the journal's records.\n"
+    ++ codes "# TYPE docs_journal_bytes gauge\ndocs_journal_bytes 10240\n"
+    ++ codes "# HELP docs_reload_total Lines `reload` that were heard, by what came of them.\n"
+    ++ codes "# TYPE docs_reload_total counter\ndocs_reload_total{result=\"done\"} 11\n"
+    ++ codes "docs_reload_total{result=\"refused\"} 12\n")
 unfolding computing
 metrics_of_all = refl
 
 head_of_metrics : status_reply (codes "HEAD /metrics HTTP/1.1") much_counted
-    ≡ Some (codes "HTTP/1.1 200 OK\r\nContent-Type: text/plain; version=0.0.4; charset=utf-8\r\nContent-Length: 865\r\n"
+    ≡ Some (codes "HTTP/1.1 200 OK\r\nContent-Type: text/plain; version=0.0.4; charset=utf-8\r\nContent-Length: 1240\r\n"
     ++ codes "Connection: close\r\n\r\n")
 unfolding computing
 head_of_metrics = refl

@@ -2,6 +2,7 @@
 use Rattle.std.specs.Prelude.{ℕ, ◌+◌, ◌/◌, ◌==◌, if◌then◌else◌, max, min}
 use Rattle.doc_server_status.specs.declared.counters.Counters.{Counters}
 use Rattle.doc_server_status.specs.declared.replies.Replies.{Replies}
+use Rattle.doc_server_status.specs.declared.standing.Standing.{Standing}
 
 -- a count, and so many more; it stands still where 64 bits are full
 abbrev pub plus : ℕ → ℕ → ℕ
@@ -9,6 +10,9 @@ plus count more = min (count + more) 18446744073709551615
 
 abbrev pub no_replies : Replies
 no_replies = record { successful = 0; redirected = 0; refused = 0; failed = 0 }
+
+abbrev pub no_standing : Standing
+no_standing = record { pages = 0; journal_bytes = 0; reloads_done = 0; reloads_refused = 0 }
 
 abbrev pub nothing_counted : Counters
 nothing_counted = record {
@@ -18,6 +22,7 @@ nothing_counted = record {
   connections = 0;
   connections_most = 0;
   turn_micros_most = 0;
+  standing = no_standing;
 }
 
 -- replies, and one with this code, by its class (RFC 9110, section 15)

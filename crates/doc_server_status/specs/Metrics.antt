@@ -2,6 +2,7 @@
 use Rattle.std.specs.Prelude.{ℕ, List, ◌++◌, codes, decimal}
 use Rattle.doc_server_status.specs.declared.counters.Counters.{Counters}
 use Rattle.doc_server_status.specs.declared.replies.Replies.{Replies}
+use Rattle.doc_server_status.specs.declared.standing.Standing.{Standing}
 
 -- what a metric is, and its kind: two lines in front of its samples
 unfoldable pub heading : List ℕ → List ℕ → List ℕ → List ℕ
@@ -40,6 +41,21 @@ turn_metric micros =
     heading (codes "gauge") (codes "docs_turn_seconds_max") (codes "Seconds of the longest turn since the last look.")
     ++ (codes "docs_turn_seconds_max " ++ decimal micros ++ codes "e-6\n")
 
+-- reloads, by what came of them
+unfoldable pub reload_metric : Standing → List ℕ
+reload_metric standing =
+    heading (codes "counter") (codes "docs_reload_total") (codes "Lines `reload` that were heard, by what came of them.")
+    ++ sample (codes "docs_reload_total{result=\"done\"}") (decimal standing.reloads_done)
+    ++ sample (codes "docs_reload_total{result=\"refused\"}") (decimal standing.reloads_refused)
+
+-- what stands behind a turn
+unfoldable pub standing_metrics : Standing → List ℕ
+standing_metrics standing =
+    metric (codes "gauge") (codes "docs_pages") (codes "Pages that stand.") standing.pages
+    ++ metric (codes "gauge") (codes "docs_journal_bytes") (codes "Bytes of the journal's records.") standing.journal_bytes
+    ++ reload_metric standing
+
 unfoldable pub metrics_text : Counters → List ℕ
 metrics_text counters =
     requests_metric counters.replies ++ reply_metrics counters ++ connection_metrics counters ++ turn_metric counters.turn_micros_most
+    ++ standing_metrics counters.standing

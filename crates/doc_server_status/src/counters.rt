@@ -4,6 +4,7 @@ ghost use Rattle.std.specs.Prelude.{◌≡◌, ◌-◌, ◌==◌, max, if◌then
 ghost use Rattle.doc_server_status.specs.Counts.{after_join, after_reply, nothing_counted};
 
 use crate::replies::Replies;
+use crate::standing::Standing;
 
 /// What the server has counted since its start. A count stands still where it can't grow.
 #[derive(Debug, Drop)]
@@ -19,6 +20,8 @@ pub struct Counters {
     pub connections_most: u64,
     /// Microseconds of the longest turn since the metrics were looked at.
     pub turn_micros_most: u64,
+    /// What stands, as it was told last.
+    pub standing: Standing,
 }
 
 impl Counters {
@@ -33,6 +36,7 @@ impl Counters {
             connections: 0,
             connections_most: 0,
             turn_micros_most: 0,
+            standing: Standing::NONE,
         }
     }
 
@@ -73,6 +77,13 @@ impl Counters {
         ensures { self.new ≡ record self.old { turn_micros_most = 0 } }
     {
         self.turn_micros_most = 0;
+    }
+
+    /// This stands behind a turn.
+    pub fn stood(&mut self, standing: Standing)
+        ensures { self.new ≡ record self.old { standing = standing } }
+    {
+        self.standing = standing;
     }
 }
 

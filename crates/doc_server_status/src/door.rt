@@ -14,7 +14,7 @@ use doc_page_parts::heap::{Heap, String};
 use doc_page_parts::text::Text;
 
 /// Room for all metrics.
-const METRICS_ROOM: usize = 1_024;
+const METRICS_ROOM: usize = 2_048;
 
 /// The reply to a request of this line, which is given without its end; `None` where it is no request line of at most 1,024 bytes: then the
 /// connection is closed. Behind a reply it is closed too.

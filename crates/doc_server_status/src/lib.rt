@@ -9,3 +9,4 @@ mod head;
 mod metrics;
 pub mod replies;
 mod request_line;
+pub mod standing;

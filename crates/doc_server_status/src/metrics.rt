@@ -1,10 +1,11 @@
 //! The counters as Prometheus reads them (its text format, version 0.0.4).
 
 ghost use Rattle.std.specs.Prelude.{◌≡◌, ◌++◌, OnOk, decimal, string_bytes};
-ghost use Rattle.doc_server_status.specs.Metrics.{connection_metrics, heading, metric, metrics_text, reply_metrics, requests_metric, sample, turn_metric};
+ghost use Rattle.doc_server_status.specs.Metrics.{connection_metrics, heading, metric, metrics_text, reload_metric, reply_metrics, requests_metric, sample, standing_metrics, turn_metric};
 
 use crate::counters::Counters;
 use crate::replies::Replies;
+use crate::standing::Standing;
 use doc_page_parts::failure::Memory;
 use doc_page_parts::heap::String;
 use std::fmt::Write;
@@ -19,6 +20,7 @@ pub fn push_metrics(out: &mut String, counters: &Counters) -> Result<(), Memory>
     push_replies(out, counters)?;
     push_connections(out, counters)?;
     push_turn(out, counters.turn_micros_most)?;
+    push_standing(out, counters.standing)?;
     Ok(())
 }
 
@@ -144,5 +146,54 @@ fn push_turn(out: &mut String, micros: u64) -> Result<(), Memory>
         "Seconds of the longest turn since the last look.",
     )?;
     write!(out, "docs_turn_seconds_max {micros}e-6\n")?;
+    Ok(())
+}
+
+/// Writes what stands, and what came of reloads.
+#[tactic(auto, unfolding(crate::specs::Metrics::standing_metrics))]
+fn push_standing(out: &mut String, standing: Standing) -> Result<(), Memory>
+    ensures { OnOk result
+        (string_bytes out.new ≡ string_bytes out.old ++ standing_metrics standing) }
+{
+    push_metric(
+        out,
+        "gauge",
+        "docs_pages",
+        "Pages that stand.",
+        standing.pages,
+    )?;
+    push_metric(
+        out,
+        "gauge",
+        "docs_journal_bytes",
+        "Bytes of the journal's records.",
+        standing.journal_bytes,
+    )?;
+    push_reloads(out, standing)?;
+    Ok(())
+}
+
+/// Writes what came of reloads.
+#[tactic(auto, unfolding(crate::specs::Metrics::reload_metric))]
+fn push_reloads(out: &mut String, standing: Standing) -> Result<(), Memory>
+    ensures { OnOk result
+        (string_bytes out.new ≡ string_bytes out.old ++ reload_metric standing) }
+{
+    push_heading(
+        out,
+        "counter",
+        "docs_reload_total",
+        "Lines `reload` that were heard, by what came of them.",
+    )?;
+    push_sample(
+        out,
+        "docs_reload_total{result=\"done\"}",
+        standing.reloads_done,
+    )?;
+    push_sample(
+        out,
+        "docs_reload_total{result=\"refused\"}",
+        standing.reloads_refused,
+    )?;
     Ok(())
 }

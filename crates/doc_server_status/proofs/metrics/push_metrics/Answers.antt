@@ -6,6 +6,7 @@ pub returns : goal.returns
 unfolding metrics_text
 returns c =
     rw (
+      c.in_ok-push_standing.ensures,
       c.in_ok-push_turn.ensures,
       c.in_ok-push_connections.ensures,
       c.in_ok-push_replies.ensures,
