@@ -7,14 +7,14 @@ use Rattle.doc_server_settling.specs.Reserves.{grown_room}
 use Rattle.doc_server_network.proofs.Settling.{none_there}
 use Rattle.doc_server_network.specs.Saved.{WereWritten, digest_after, has_grown}
 
+known_as : (known : Option (List ℕ)) → (lines : List ℕ) × IfSome known (λ l. l ≡ lines)
+known_as None = ([], tt)
+known_as (Some lines) = (lines, refl)
+
 module _ {D : Type 0} (seconds : ℕ) (waiting : Option (List ℕ)) where
   -- the lines that wait, where they are known, are written
   abbrev pub AreWritten : Option (Journal D) → Option (Journal D) → Type 0
   AreWritten old new = (lines : List ℕ) × IfSome waiting (λ known. known ≡ lines) × WereWritten seconds lines old new
-
-  known_as : (known : Option (List ℕ)) → (lines : List ℕ) × IfSome known (λ l. l ≡ lines)
-  known_as None = ([], tt)
-  known_as (Some lines) = (lines, refl)
 
   pub nowhere : (o : Option (Journal D)) → o ≡ None → AreWritten o o
   nowhere o none =

@@ -6,7 +6,6 @@ use Rattle.std.proofs.lemmas.Bool.{eqb-true}
 use Rattle.std.proofs.lemmas.List.Elements.{Contains-append_cases}
 use Rattle.doc_hub.specs.Runs.{Happened, events_on}
 use Rattle.doc_server_serving.specs.Hearing.{HeardAt, HearsAll, HearsAt, IsMinded, IsReader, RouseAll, Rouses, RousesAt, SparesAll, SparesAt, WaitOn, Waits, WaitsOn, WasHeard}
-use Rattle.doc_server_serving.specs.Parts.{takes_part}
 use Rattle.doc_server_serving.specs.Wirings.{Peer, SweptAll, SweptAt, Table, WokeAt, new_peer, woken}
 use Rattle.doc_server_serving.proofs.Hearing.{heard_first, heard_last, only}
 use Rattle.doc_server_serving.proofs.LeavingSteps.{get_gone}

@@ -1,5 +1,5 @@
 -- How a turn is shared by the connections that take part in it.
-use Rattle.std.specs.Prelude.{◌≡◌, ◌≤◌, ◌<◌, ◌⊎◌, ℕ, ◌+◌, ◌*◌, ◌==◌, Bool, true, false, List, [], length, count_by}
+use Rattle.std.specs.Prelude.{◌≡◌, ◌≤◌, ◌<◌, ◌⊎◌, ℕ, ◌+◌, ◌*◌, Bool, true, false, List, [], length, count_by}
 use Rattle.doc_hub.specs.Runs.{Happened, events_on, sent_by, sent_on}
 use Rattle.doc_hub.specs.RunParts.{Gave}
 use Rattle.doc_hub_events.specs.declared.event.ConnectionEvent.TheVariants as calls

@@ -1,5 +1,5 @@
 -- What a sweep makes of clients. All of this is this project's choice.
-use Rattle.std.specs.Prelude.{◌≡◌, ℕ, List, Bool, true, false, Option, Some, None, option_map, if◌then◌else◌}
+use Rattle.std.specs.Prelude.{◌≡◌, ℕ, List, Bool, true, false, option_map, if◌then◌else◌}
 use Rattle.std.specs.FinMap as map
 use Rattle.doc_server_serving.specs.Parts.{StayBut, times_among}
 use Rattle.doc_server_serving.specs.Times.{is_over, later}

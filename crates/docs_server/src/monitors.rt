@@ -26,7 +26,7 @@ pub struct Monitors<'a> {
     /// When the turn that runs began.
     began: Option<Instant>,
     /// What stands is told here.
-    standing: &'a Cell<Standing>,
+    told: &'a Cell<Standing>,
 }
 
 impl<'a> Monitors<'a> {
@@ -35,7 +35,7 @@ impl<'a> Monitors<'a> {
         rt: &R,
         heap: Heap,
         address: SocketAddr,
-        standing: &'a Cell<Standing>,
+        told: &'a Cell<Standing>,
     ) -> Result<Monitors<'a>, NetFault> {
         let Ok(listener) = TcpListener::bind(rt, address) else {
             return Err(NetFault);
@@ -47,7 +47,7 @@ impl<'a> Monitors<'a> {
             counters: Counters::new(),
             standing: BTreeMap::new(heap),
             began: None,
-            standing,
+            told,
         })
     }
 
@@ -57,7 +57,7 @@ impl<'a> Monitors<'a> {
         let Some(now) = now else {
             return;
         };
-        self.counters.stood(self.standing.get());
+        self.counters.stood(self.told.get());
         self.accept(now);
         self.answer(now);
     }

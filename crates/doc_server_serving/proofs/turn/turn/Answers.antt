@@ -1,4 +1,7 @@
-use Rattle.std.proofs.Common.{ap}
+use Rattle.std.proofs.Common.{ap, subst}
+use Rattle.std.specs.Prelude.{Option}
+use Rattle.doc_server_journal.specs.declared.journal.Journal.{Journal}
+use Rattle.doc_server_network.specs.Saved.{WereWritten}
 use Rattle.doc_server_serving.proofs.Ending.{ends_turned, sent_turned}
 use Rattle.doc_server_serving.proofs.Minding.{waits_heard, waits_join, waits_spared}
 use Rattle.doc_server_serving.proofs.Parting.{stay_join}
@@ -87,4 +90,9 @@ returns-clause-others g c =
     c.finish_all.ensures.others)
 
 pub returns-clause-time : goal.returns-clause-time
-returns-clause-time g c = ?
+returns-clause-time g c =
+    let lines = c.in_ok-settle.ensures.time.0 in (
+      lines,
+      subst (λ (j : Option (Journal g.row.D.Denot)). WereWritten c.args.seconds lines j c.settle.new.self.journal)
+          c.take_in_all.ensures.journal c.in_ok-settle.ensures.time.2,
+    )

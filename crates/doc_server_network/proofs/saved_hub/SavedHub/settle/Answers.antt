@@ -64,7 +64,7 @@ returns-clause-any_moment g c =
     c.in_ok-append.ensures.any_moment is
 
 pub returns-in_default-clause-time : goal.returns-in_default-clause-time
-returns-in_default-clause-time g c = nowhere c.args.seconds c.args.self.now.unsaved.lines c.args.self.now.journal ?
+returns-in_default-clause-time g c = nowhere c.args.seconds c.args.self.now.unsaved.lines c.args.self.now.journal c.in_default.is
 
 pub returns-then-is_empty-clause-time : goal.returns-then-is_empty-clause-time
 returns-then-is_empty-clause-time g c =

@@ -42,7 +42,7 @@ returns-then-not-next-clause-goes g c =
     c.args.saved.now.hub c.turn.new.saved.hub c.args.net.now c.turn.new.net c.args.self.now.peers c.turn.new.self.peers c.turn.ensures.goes
 
 pub returns-then-not-next-clause-keeps : goal.returns-then-not-next-clause-keeps
-returns-then-not-next-clause-keeps g c = c.note.ensures
+returns-then-not-next-clause-keeps g c = c.note.ensures.keeps
 
 pub returns-clause-goes : goal.returns-clause-goes
 returns-clause-goes g c =
@@ -83,4 +83,4 @@ pub returns-clause-takes : goal.returns-clause-takes
 returns-clause-takes g c = λ goes hears. (c.turn.new.saved.hub.1.readers, c.take_readers.ensures.takes)
 
 pub returns-clause-keeps : goal.returns-clause-keeps
-returns-clause-keeps g c = λ readers answered. c.take_readers.ensures.keeps readers (c.note.ensures readers answered)
+returns-clause-keeps g c = λ readers answered. c.take_readers.ensures.keeps readers (c.note.ensures.keeps readers answered)

@@ -1,7 +1,8 @@
 use Rattle.std.proofs.Common.{◌++◌, ◌∙◌, ℕ, List, ap, refl, subst, sym}
 use Rattle.std.specs.Prelude.{Contains}
 use Rattle.std.specs.FinMap as map
-use Rattle.doc_server_serving.specs.Parts.{times_among, turn_of}
+use Rattle.std.specs.List.{list_any}
+use Rattle.doc_server_serving.specs.Parts.{takes_part_at, times_among, turn_of}
 use Rattle.doc_server_serving.proofs.Accepting.{goes_silently, quiet_none}
 use Rattle.doc_server_serving.proofs.Crashing.{nothing_written, room_behind}
 use Rattle.doc_server_serving.proofs.Fewer.{fewer_turned}
@@ -175,19 +176,23 @@ returns-in_err-collect-clause-waits g c = waits_nobody c.args.self.now.peers
 pub returns-then-eq-clause-minds : goal.returns-then-eq-clause-minds
 returns-then-eq-clause-minds g c =
     let list = c.in_ok-collect.ensures ∙ ap (λ (xs : List ℕ). xs ++ turn_of c.args.next.now.first c.args.self.now.peers) c.clear.ensures.items in
-    minded_served c.as_slice.result.now c.args.self.now.peers c.turn.new.peers c.goes_on.result
+    minded_served c.as_slice.result.now c.args.self.now.peers c.turn.new.peers c.goes_on-next.result
     (λ k. ap (λ (xs : List ℕ). times_among xs k) (c.as_slice.ensures.value ∙ list) ∙ listed c.args.next.now.first c.args.self.now.peers k)
     (λ k part.
     subst (λ (xs : List ℕ). Contains xs k) (sym (c.as_slice.ensures.value ∙ list))
     (among_them c.args.next.now.first c.args.self.now.peers k part))
-    c.turn.ensures.others ?
+    c.turn.ensures.others
+    (c.goes_on-next.ensures
+    ∙ ap (λ (xs : List ℕ). list_any (λ k. takes_part_at (map.get c.turn.new.peers k)) xs) (c.as_slice-3.ensures.value ∙ sym c.as_slice.ensures.value))
 
 pub returns-clause-minds : goal.returns-clause-minds
 returns-clause-minds g c =
     let list = c.in_ok-collect.ensures ∙ ap (λ (xs : List ℕ). xs ++ turn_of c.args.next.now.first c.args.self.now.peers) c.clear.ensures.items in
-    minded_served c.as_slice.result.now c.args.self.now.peers c.turn.new.peers c.goes_on.result
+    minded_served c.as_slice.result.now c.args.self.now.peers c.turn.new.peers c.goes_on-next.result
     (λ k. ap (λ (xs : List ℕ). times_among xs k) (c.as_slice.ensures.value ∙ list) ∙ listed c.args.next.now.first c.args.self.now.peers k)
     (λ k part.
     subst (λ (xs : List ℕ). Contains xs k) (sym (c.as_slice.ensures.value ∙ list))
     (among_them c.args.next.now.first c.args.self.now.peers k part))
-    c.turn.ensures.others ?
+    c.turn.ensures.others
+    (c.goes_on-next.ensures
+    ∙ ap (λ (xs : List ℕ). list_any (λ k. takes_part_at (map.get c.turn.new.peers k)) xs) (c.as_slice-3.ensures.value ∙ sym c.as_slice.ensures.value))
