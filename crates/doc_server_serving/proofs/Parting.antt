@@ -120,6 +120,10 @@ minded_served ready t u goes_on each listed stay is = λ k part. by k (takes_par
         absurd (not_both (takes_part_at (map.get t k))
         (sym (ap takes_part_at (stay k (each k ∙ ap (λ b. cond b 1 0) off))) ∙ part) off)
 
+pub or_later : (b c : Bool) → c ≡ true → b || c ≡ true
+or_later true c is = refl
+or_later false c is = is
+
 stood : (p q : Option Peer) → SweptAt p q → takes_part_at q ≡ true → (x : Peer) × (p ≡ Some x)
 stood None None s part = absurd (never part)
 stood None (Some q) s part = absurd s

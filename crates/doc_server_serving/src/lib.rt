@@ -8,7 +8,7 @@ pub mod fault;
 pub mod letting_go;
 pub mod limits;
 pub mod named_file;
-mod next_turn;
+pub mod next_turn;
 pub mod peers;
 pub mod room;
 mod sending;

@@ -185,7 +185,7 @@ impl Server {
             return Ok(true);
         }
         source.note(saved.pages(), saved.journal_bytes());
-        if !next.hears_input {
+        if !next.hears_input() {
             return Ok(false);
         }
         take_readers(source, saved);
@@ -193,7 +193,7 @@ impl Server {
     }
 
     /// One turn. True: standard input has ended, and nobody is accepted any more.
-    fn turn<N: Network, D: Device + NamedFile, R: Renderer + Drop, C: Clock>(
+    pub fn turn<N: Network, D: Device + NamedFile, R: Renderer + Drop, C: Clock>(
         &mut self,
         rt: &C,
         net: &mut N,
@@ -232,7 +232,7 @@ impl Server {
             (RestoresEither config saved.old.hub.1 saved.new.hub.1)
             saved.old.journal saved.new.journal }
     {
-        net.wait(self.longest_wait(next.goes_on))?;
+        net.wait(self.longest_wait(next.goes_on()))?;
         let now = time_of(rt, self.swept);
         look(self.heap, &mut self.looked, saved, now)?;
         let news = wake_told(&mut self.peers, net);
@@ -243,7 +243,7 @@ impl Server {
             return Ok(true);
         }
         self.end_turn(net, saved, next, now, news.is_lost)?;
-        next.hears_input = news.input_came;
+        next.hear(news.input_came);
         Ok(false)
     }
 
@@ -294,7 +294,7 @@ impl Server {
             saved.old.journal saved.new.journal }
     {
         self.ready.clear();
-        self.peers.collect(next.first, &mut self.ready)?;
+        self.peers.collect(next.first(), &mut self.ready)?;
         let room = saved.room();
         let mut share = Share::new();
         turn(
@@ -307,8 +307,8 @@ impl Server {
             &mut share,
             seconds_of(rt),
         )?;
-        next.first = number_at(self.ready.as_slice(), share.behind());
-        next.goes_on = self.peers.goes_on(self.ready.as_slice());
+        let first = number_at(self.ready.as_slice(), share.behind());
+        next.serve(first, self.peers.goes_on(self.ready.as_slice()));
         if saved.room() == room {
             return Ok(());
         }
@@ -400,7 +400,7 @@ impl Server {
         let is_crowded = self.peers.count() >= self.door.most;
         self.peers
             .sweep(self.numbers.as_slice(), &self.limits, is_crowded);
-        next.goes_on = next.goes_on || self.peers.goes_on(self.numbers.as_slice());
+        next.sweep(self.peers.goes_on(self.numbers.as_slice()));
         Ok(true)
     }
 }

@@ -22,6 +22,7 @@ use doc_server_restore::edits::Edits;
 use doc_server_restore::restore::restore;
 use doc_server_serving::fault::ServeFault;
 use doc_server_serving::limits::Limits;
+use doc_server_serving::next_turn::NextTurn;
 use doc_server_serving::room::keep_room;
 use doc_server_serving::server::Server;
 use doc_server_settling::reserve::{RESERVE, SPARE};
@@ -46,6 +47,7 @@ pub struct Served<R: Renderer + Drop> {
     server: Server,
     net: MioNetwork,
     saved: SavedHub<MemoryDevice, R>,
+    next: NextTurn,
     fault: Option<ServeFault>,
 }
 
@@ -89,6 +91,7 @@ impl<R: Renderer + Drop> Served<R> {
             server,
             net,
             saved,
+            next: NextTurn::new(),
             fault: None,
         })
     }
@@ -108,7 +111,7 @@ impl<R: Renderer + Drop> Served<R> {
         if self.fault.is_some() {
             return false;
         }
-        match self.server.turn(rt, &mut self.net, &mut self.saved) {
+        match self.server.turn(rt, &mut self.net, &mut self.saved, &mut self.next) {
             Ok(_) => true,
             Err(fault) => {
                 self.fault = Some(fault);
@@ -138,7 +141,7 @@ fn saved_of<R: Renderer + Drop>(
 {
     let mut saved = saved_over(heap, hub, bounds, file)?;
     match keep_room(heap, &mut saved, RESERVE + SPARE) {
-        Ok(()) => Some(saved),
+        Ok(_) => Some(saved),
         Err(_) => None,
     }
 }

@@ -1,4 +1,4 @@
-use Rattle.std.proofs.Common.{◌≡◌, Bool, true, false}
+use Rattle.std.proofs.Common.{◌≡◌, ◌∙◌, Bool, true, false, sym}
 use Rattle.doc_server_serving.proofs.Crashing.{ended_behind}
 use Rattle.doc_server_serving.proofs.Readers.{turned, turned_with}
 use Rattle.doc_server_serving.proofs.Sites.{all_saved_too, settled_too}
@@ -36,13 +36,13 @@ returns-then-branch-clause-goes g c =
 pub returns-then-branch-clause-keeps : goal.returns-then-branch-clause-keeps
 returns-then-branch-clause-keeps g c = λ readers answered. answered
 
-pub returns-then-not-next-clause-goes : goal.returns-then-not-next-clause-goes
-returns-then-not-next-clause-goes g c =
+pub returns-then-not-hears_input-clause-goes : goal.returns-then-not-hears_input-clause-goes
+returns-then-not-hears_input-clause-goes g c =
     turned g.R.Renderer.page g.N.Network.came g.N.Network.gone g.N.Network.wakes g.N.Network.is_free (g.S.Source.answered c.note.new.self)
     c.args.saved.now.hub c.turn.new.saved.hub c.args.net.now c.turn.new.net c.args.self.now.peers c.turn.new.self.peers c.turn.ensures.goes
 
-pub returns-then-not-next-clause-keeps : goal.returns-then-not-next-clause-keeps
-returns-then-not-next-clause-keeps g c = c.note.ensures.keeps
+pub returns-then-not-hears_input-clause-keeps : goal.returns-then-not-hears_input-clause-keeps
+returns-then-not-hears_input-clause-keeps g c = c.note.ensures.keeps
 
 pub returns-clause-goes : goal.returns-clause-goes
 returns-clause-goes g c =
@@ -76,8 +76,8 @@ returns-clause-any_moment g c =
 pub returns-then-branch-clause-takes : goal.returns-then-branch-clause-takes
 returns-then-branch-clause-takes g c = λ goes. absurd (not_both goes)
 
-pub returns-then-not-next-clause-takes : goal.returns-then-not-next-clause-takes
-returns-then-not-next-clause-takes g c = λ goes hears. absurd (unheard c.turn.new.next.hears_input c.if-not-next.true hears)
+pub returns-then-not-hears_input-clause-takes : goal.returns-then-not-hears_input-clause-takes
+returns-then-not-hears_input-clause-takes g c = λ goes hears. absurd (unheard c.turn.new.next.hears_input (sym c.hears_input.ensures ∙ c.if-not-hears_input.true) hears)
 
 pub returns-clause-takes : goal.returns-clause-takes
 returns-clause-takes g c = λ goes hears. (c.turn.new.saved.hub.1.readers, c.take_readers.ensures.takes)

@@ -3,6 +3,7 @@ use Rattle.std.specs.Prelude.{Contains}
 use Rattle.std.specs.FinMap as map
 use Rattle.std.specs.List.{list_any}
 use Rattle.doc_server_serving.specs.Parts.{takes_part_at, times_among, turn_of}
+use Rattle.doc_server_serving.specs.declared.next_turn.NextTurn.{NextTurn}
 use Rattle.doc_server_serving.proofs.Accepting.{goes_silently, quiet_none}
 use Rattle.doc_server_serving.proofs.Crashing.{nothing_written, room_behind}
 use Rattle.doc_server_serving.proofs.Fewer.{fewer_turned}
@@ -91,20 +92,24 @@ returns-clause-fewer g c =
 
 pub returns-then-eq-clause-list : goal.returns-then-eq-clause-list
 returns-then-eq-clause-list g c =
-    c.in_ok-collect.ensures ∙ ap (λ (xs : List ℕ). xs ++ turn_of c.args.next.now.first c.args.self.now.peers) c.clear.ensures.items
+    c.in_ok-collect.ensures ∙ ap (λ (xs : List ℕ). xs ++ turn_of c.first.result c.args.self.now.peers) c.clear.ensures.items
+    ∙ ap (λ n. turn_of n c.args.self.now.peers) c.first.ensures
 
 pub returns-then-eq-clause-each : goal.returns-then-eq-clause-each
 returns-then-eq-clause-each g c =
-    let list = c.in_ok-collect.ensures ∙ ap (λ (xs : List ℕ). xs ++ turn_of c.args.next.now.first c.args.self.now.peers) c.clear.ensures.items in
+    let list = c.in_ok-collect.ensures ∙ ap (λ (xs : List ℕ). xs ++ turn_of c.first.result c.args.self.now.peers) c.clear.ensures.items
+    ∙ ap (λ n. turn_of n c.args.self.now.peers) c.first.ensures in
     λ k. ap (λ (xs : List ℕ). times_among xs k) list ∙ listed c.args.next.now.first c.args.self.now.peers k
 
 pub returns-clause-list : goal.returns-clause-list
 returns-clause-list g c =
-    c.in_ok-collect.ensures ∙ ap (λ (xs : List ℕ). xs ++ turn_of c.args.next.now.first c.args.self.now.peers) c.clear.ensures.items
+    c.in_ok-collect.ensures ∙ ap (λ (xs : List ℕ). xs ++ turn_of c.first.result c.args.self.now.peers) c.clear.ensures.items
+    ∙ ap (λ n. turn_of n c.args.self.now.peers) c.first.ensures
 
 pub returns-clause-each : goal.returns-clause-each
 returns-clause-each g c =
-    let list = c.in_ok-collect.ensures ∙ ap (λ (xs : List ℕ). xs ++ turn_of c.args.next.now.first c.args.self.now.peers) c.clear.ensures.items in
+    let list = c.in_ok-collect.ensures ∙ ap (λ (xs : List ℕ). xs ++ turn_of c.first.result c.args.self.now.peers) c.clear.ensures.items
+    ∙ ap (λ n. turn_of n c.args.self.now.peers) c.first.ensures in
     λ k. ap (λ (xs : List ℕ). times_among xs k) list ∙ listed c.args.next.now.first c.args.self.now.peers k
 
 pub returns-in_err-collect-clause-any_moment : goal.returns-in_err-collect-clause-any_moment
@@ -139,7 +144,8 @@ pub returns-then-eq-clause-heard : goal.returns-then-eq-clause-heard
 returns-then-eq-clause-heard g c =
     let P = g.R.Renderer.page in let C = g.N.Network.came in let G = g.N.Network.gone in
     let W = g.N.Network.wakes in let F = g.N.Network.is_free in
-    let list = c.in_ok-collect.ensures ∙ ap (λ (xs : List ℕ). xs ++ turn_of c.args.next.now.first c.args.self.now.peers) c.clear.ensures.items in (
+    let list = c.in_ok-collect.ensures ∙ ap (λ (xs : List ℕ). xs ++ turn_of c.first.result c.args.self.now.peers) c.clear.ensures.items
+    ∙ ap (λ n. turn_of n c.args.self.now.peers) c.first.ensures in (
       goes_turns P C G W F c.args.saved.now.hub c.turn.new.saved.hub c.args.net.now c.turn.new.net c.args.self.now.peers c.turn.new.peers
           c.turn.ensures.same c.turn.ensures.woken c.turn.ensures.free _ c.turn.ensures.turns.0,
       all_heard c.as_slice.result.now c.turn.ensures.turns.0.run c.args.self.now.peers c.turn.new.peers
@@ -153,7 +159,8 @@ pub returns-clause-heard : goal.returns-clause-heard
 returns-clause-heard g c =
     let P = g.R.Renderer.page in let C = g.N.Network.came in let G = g.N.Network.gone in
     let W = g.N.Network.wakes in let F = g.N.Network.is_free in
-    let list = c.in_ok-collect.ensures ∙ ap (λ (xs : List ℕ). xs ++ turn_of c.args.next.now.first c.args.self.now.peers) c.clear.ensures.items in (
+    let list = c.in_ok-collect.ensures ∙ ap (λ (xs : List ℕ). xs ++ turn_of c.first.result c.args.self.now.peers) c.clear.ensures.items
+    ∙ ap (λ n. turn_of n c.args.self.now.peers) c.first.ensures in (
       goes_join P C G W F c.args.saved.now.hub c.turn.new.saved.hub c.keep_room.new.saved.hub c.args.net.now c.turn.new.net c.turn.new.net
           c.args.self.now.peers c.turn.new.peers c.turn.new.peers
           (goes_turns P C G W F c.args.saved.now.hub c.turn.new.saved.hub c.args.net.now c.turn.new.net c.args.self.now.peers c.turn.new.peers
@@ -175,24 +182,26 @@ returns-in_err-collect-clause-waits g c = waits_nobody c.args.self.now.peers
 
 pub returns-then-eq-clause-minds : goal.returns-then-eq-clause-minds
 returns-then-eq-clause-minds g c =
-    let list = c.in_ok-collect.ensures ∙ ap (λ (xs : List ℕ). xs ++ turn_of c.args.next.now.first c.args.self.now.peers) c.clear.ensures.items in
-    minded_served c.as_slice.result.now c.args.self.now.peers c.turn.new.peers c.goes_on-next.result
+    let list = c.in_ok-collect.ensures ∙ ap (λ (xs : List ℕ). xs ++ turn_of c.first.result c.args.self.now.peers) c.clear.ensures.items
+    ∙ ap (λ n. turn_of n c.args.self.now.peers) c.first.ensures in
+    minded_served c.as_slice.result.now c.args.self.now.peers c.turn.new.peers c.serve.new.self.goes_on
     (λ k. ap (λ (xs : List ℕ). times_among xs k) (c.as_slice.ensures.value ∙ list) ∙ listed c.args.next.now.first c.args.self.now.peers k)
     (λ k part.
     subst (λ (xs : List ℕ). Contains xs k) (sym (c.as_slice.ensures.value ∙ list))
     (among_them c.args.next.now.first c.args.self.now.peers k part))
     c.turn.ensures.others
-    (c.goes_on-next.ensures
+    (ap (λ (n : NextTurn). n.goes_on) c.serve.ensures ∙ c.goes_on.ensures
     ∙ ap (λ (xs : List ℕ). list_any (λ k. takes_part_at (map.get c.turn.new.peers k)) xs) (c.as_slice-3.ensures.value ∙ sym c.as_slice.ensures.value))
 
 pub returns-clause-minds : goal.returns-clause-minds
 returns-clause-minds g c =
-    let list = c.in_ok-collect.ensures ∙ ap (λ (xs : List ℕ). xs ++ turn_of c.args.next.now.first c.args.self.now.peers) c.clear.ensures.items in
-    minded_served c.as_slice.result.now c.args.self.now.peers c.turn.new.peers c.goes_on-next.result
+    let list = c.in_ok-collect.ensures ∙ ap (λ (xs : List ℕ). xs ++ turn_of c.first.result c.args.self.now.peers) c.clear.ensures.items
+    ∙ ap (λ n. turn_of n c.args.self.now.peers) c.first.ensures in
+    minded_served c.as_slice.result.now c.args.self.now.peers c.turn.new.peers c.serve.new.self.goes_on
     (λ k. ap (λ (xs : List ℕ). times_among xs k) (c.as_slice.ensures.value ∙ list) ∙ listed c.args.next.now.first c.args.self.now.peers k)
     (λ k part.
     subst (λ (xs : List ℕ). Contains xs k) (sym (c.as_slice.ensures.value ∙ list))
     (among_them c.args.next.now.first c.args.self.now.peers k part))
     c.turn.ensures.others
-    (c.goes_on-next.ensures
+    (ap (λ (n : NextTurn). n.goes_on) c.serve.ensures ∙ c.goes_on.ensures
     ∙ ap (λ (xs : List ℕ). list_any (λ k. takes_part_at (map.get c.turn.new.peers k)) xs) (c.as_slice-3.ensures.value ∙ sym c.as_slice.ensures.value))

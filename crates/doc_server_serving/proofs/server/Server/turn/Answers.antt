@@ -1,6 +1,7 @@
-use Rattle.std.proofs.Common.{◌≤◌, ℕ, ap, arith, subst, ◌∙◌}
+use Rattle.std.proofs.Common.{◌≤◌, ℕ, ap, arith, subst, sym, ◌∙◌}
 use Rattle.std.specs.FinMap as map
 use Rattle.doc_server_serving.specs.Hearing.{IsMinded}
+use Rattle.doc_server_serving.specs.declared.next_turn.NextTurn.{NextTurn}
 use Rattle.doc_server_serving.proofs.Asking.{asked_below, none_less, waited_still}
 use Rattle.doc_server_serving.proofs.Crashing.{ended_behind, nothing_written, room_before, served_behind}
 use Rattle.doc_server_serving.proofs.Fewer.{fewer_given}
@@ -262,7 +263,7 @@ returns-clause-waits g c =
 
 pub returns-clause-hears : goal.returns-clause-hears
 returns-clause-hears g c =
-    λ ends hears. c.end_turn.ensures.calls _ (c.serve_ready.ensures.calls _ (c.wake_told-news.ensures.news.came hears))
+    λ ends hears. c.end_turn.ensures.calls _ (c.serve_ready.ensures.calls _ (c.wake_told-news.ensures.news.came (sym (ap (λ (n : NextTurn). n.hears_input) c.hear-2.ensures) ∙ hears)))
 
 pub returns-clause-asked : goal.returns-clause-asked
 returns-clause-asked g c =
@@ -278,4 +279,6 @@ returns-clause-asked g c =
     c.serve_ready.ensures.goes)) (c.in_ok-end_turn.ensures.asked still)
 
 pub returns-clause-minds : goal.returns-clause-minds
-returns-clause-minds g c = λ ends. c.in_ok-end_turn.ensures.minds c.in_ok-serve_ready.ensures.minds
+returns-clause-minds g c =
+    λ ends k part. ap (λ (n : NextTurn). n.goes_on) c.hear-2.ensures
+    ∙ c.in_ok-end_turn.ensures.minds c.in_ok-serve_ready.ensures.minds k part
