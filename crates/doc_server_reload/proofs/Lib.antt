@@ -1,0 +1,3 @@
+mod Examples
+pub mod Itself
+pub mod LeadLaw
