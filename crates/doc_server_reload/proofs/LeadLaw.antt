@@ -131,7 +131,7 @@ module _ (old new : Site) where
       (and_first (same_pages (map.get old.pages path) (map.get new.pages path)) (names_alike path) e)
 
   -- a page that both have alike stands so in both
-  so_alike : (path : List ℕ) → same_at old new path ≡ true → map.contains_key new.pages path ≡ true → so path ≡ true
+  pub so_alike : (path : List ℕ) → same_at old new path ≡ true → map.contains_key new.pages path ≡ true → so path ≡ true
   so_alike path e there =
       let here = ap is_some (pages_alike path e) ∙ there in
       let names = and_second (same_pages (map.get old.pages path) (map.get new.pages path)) (names_alike path) e in

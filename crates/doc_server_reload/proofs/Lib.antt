@@ -1,3 +1,5 @@
+mod AlikeSteps
 mod Examples
 pub mod Itself
 pub mod LeadLaw
+mod PushSteps
