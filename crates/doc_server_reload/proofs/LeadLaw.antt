@@ -144,7 +144,7 @@ module _ (old new : Site) where
   gone entries = filter (λ entry. not (so entry.0)) entries
 
   -- a site before a page is replaced, or before it is made
-  abbrev back : Bool → Option Page → Site → List ℕ → Site
+  abbrev pub back : Bool → Option Page → Site → List ℕ → Site
   back false page site path = effect_of site (remove_page path)
   back true None site path = site
   back true (Some page) site path = with_other site path page
@@ -153,7 +153,7 @@ module _ (old new : Site) where
   before [] = new
   before (entry ∷ entries) = back (so entry.0) (map.get old.pages entry.0) (before entries) entry.0
 
-  none_here : (path : List ℕ) → so path ≡ true → map.get old.pages path ≡ None → ⊥
+  pub none_here : (path : List ℕ) → so path ≡ true → map.get old.pages path ≡ None → ⊥
   none_here path is none = clash (map.contains_key old.pages path) (stands_here path is) (ap is_some none)
 
   -- what stands under a path then: the old page, where it stands so in both

@@ -1,5 +1,9 @@
 mod AlikeSteps
 mod Examples
+mod Fits
 pub mod Itself
 pub mod LeadLaw
+pub mod MadeLaw
 mod PushSteps
+pub mod ReloadLaw
+mod Sizes

@@ -1,6 +1,6 @@
 //! Laws of a reload. Each function does nothing: its contract is the law.
 
-ghost use Rattle.doc_server_reload.specs.Laws.{LedGivesTheSite, NothingLeadsToItself};
+ghost use Rattle.doc_server_reload.specs.Laws.{LedGivesTheSite, LedIsMade, NothingLeadsToItself, ReloadIsARestart};
 
 /// The edits that lead a site to another make it the other, aliases included: where both are sites.
 #[tactic(auto, using(crate::proofs::LeadLaw::led_gives_the_site))]
@@ -12,4 +12,16 @@ pub fn the_edits_give_the_site()
 #[tactic(auto, using(crate::proofs::Itself::nothing_leads_to_itself))]
 pub fn nothing_leads_to_itself()
     ensures { NothingLeadsToItself }
+{}
+
+/// A store refuses none of the edits that lead its site to another, and has the other afterwards: where both are sites, the other is within
+/// a store's limits, and stamps are left for the edits.
+pub fn the_edits_are_made()
+    ensures { LedIsMade }
+{}
+
+/// A reload is a restart: the edits that lead a store to the site that its journal's records make of the configuration as it stands now are
+/// all made, and give this site. So a server that makes them serves what one that starts anew would serve.
+pub fn a_reload_is_a_restart()
+    ensures { ReloadIsARestart }
 {}

@@ -1,5 +1,8 @@
 use Rattle.std.proofs.Common.{ap, subst, sym, ◌∙◌, ◌++◌}
+use Rattle.std.specs.List.{flat_map}
 use Rattle.doc_store_readers.specs.Pages.{without_stamps}
+use Rattle.doc_server_script.specs.Compactions.{other_pages}
+use Rattle.doc_server_reload.specs.Leads.{led_page}
 use Rattle.doc_server_reload.proofs.PushSteps.{Stand, all_stand, first_stands, goes_on, later_stand, led_left, led_more}
 use Rattle.doc_server_reload.proofs.lead.push_pages.Goals as goal
 
@@ -27,7 +30,9 @@ entries-preserved c =
     let rest = without_stamps c.next.new.self in
     let steps = ap without_stamps c.in-Some.ensures.steps in
     record {
-      added = goes_on c.args.edits.now.items c.entries.edits.items c.push_page.new.edits.items _ _ _ _ c.entries.invariant.added
+      added = goes_on c.args.edits.now.items c.entries.edits.items c.push_page.new.edits.items
+          (flat_map (led_page c.args.old.now.site c.args.new.now.site)
+          (other_pages c.args.old.now.site c.args.new.now.site c.args.new.now.site.pages)) _ _ _ c.entries.invariant.added
           c.in_ok-push_page.ensures
           (ap (led_left old new) steps ∙ led_more old new (c.in-Some.path.now, c.in-Some.page.now.page) rest);
       left = later_stand new.pages (c.in-Some.path.now, c.in-Some.page.now.page) rest
