@@ -2,6 +2,7 @@ mod AlikeSteps
 mod Examples
 mod Fits
 pub mod Itself
+pub mod KeptSites
 pub mod LeadLaw
 pub mod MadeLaw
 mod PushSteps

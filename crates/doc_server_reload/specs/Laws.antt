@@ -4,6 +4,7 @@ use Rattle.std.specs.FinMap as map
 use Rattle.doc_store_readers.specs.Pages.{Page}
 use Rattle.doc_store_readers.specs.Sites.{Site, IsSite}
 use Rattle.doc_store.specs.Store.{StoreState, page_limit, alias_limit, text_limit, put_limit}
+use Rattle.doc_media.specs.Media.{Media}
 use Rattle.doc_server_script.specs.Compactions.{effects}
 use Rattle.doc_server_restore.specs.Restores.{all_made, restored, unstamped}
 use Rattle.doc_server_reload.specs.Leads.{led}
@@ -27,6 +28,11 @@ pub record HasRoomToLead (store : StoreState) (new : Site) : Type 0 where
 abbrev pub LedIsMade : Type 0
 LedIsMade = (store : StoreState) (new : Site) → IsSite store.site → IsSite new → HasRoomToLead store new
     → (after : StoreState) × (all_made None (unstamped store) (led store.site new) ≡ Some after) × (after.site ≡ new)
+
+-- where they are all made, beside whatever media, the store has the other site afterwards
+abbrev pub WhatIsMadeGivesTheSite : Type 0
+WhatIsMadeGivesTheSite = (media : Media) (store after : StoreState) (new : Site) → IsSite store.site → IsSite new
+    → all_made media store (led store.site new) ≡ Some after → after.site ≡ new
 
 -- A reload is a restart: a served store is led to the site that a start would restore now, from the records of the journal over the
 -- configuration as it stands, and has this site afterwards.
