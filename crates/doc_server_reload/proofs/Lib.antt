@@ -1,4 +1,5 @@
 mod AlikeSteps
+mod BesideMedia
 mod Examples
 mod Fits
 pub mod Itself

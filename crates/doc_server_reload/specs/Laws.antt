@@ -5,6 +5,7 @@ use Rattle.doc_store_readers.specs.Pages.{Page}
 use Rattle.doc_store_readers.specs.Sites.{Site, IsSite}
 use Rattle.doc_store.specs.Store.{StoreState, page_limit, alias_limit, text_limit, put_limit}
 use Rattle.doc_media.specs.Media.{Media}
+use Rattle.doc_hub.specs.Worlds.{IsApart}
 use Rattle.doc_server_script.specs.Compactions.{effects}
 use Rattle.doc_server_restore.specs.Restores.{all_made, restored, unstamped}
 use Rattle.doc_server_reload.specs.Leads.{led}
@@ -28,6 +29,12 @@ pub record HasRoomToLead (store : StoreState) (new : Site) : Type 0 where
 abbrev pub LedIsMade : Type 0
 LedIsMade = (store : StoreState) (new : Site) → IsSite store.site → IsSite new → HasRoomToLead store new
     → (after : StoreState) × (all_made None (unstamped store) (led store.site new) ≡ Some after) × (after.site ≡ new)
+
+-- the same beside media, on none of whose paths the other site has a name
+abbrev pub LedIsMadeBeside : Type 0
+LedIsMadeBeside = (media : Media) (store : StoreState) (new : Site) → IsSite store.site → IsSite new → IsApart new media
+    → HasRoomToLead store new
+    → (after : StoreState) × (all_made media (unstamped store) (led store.site new) ≡ Some after) × (after.site ≡ new)
 
 -- where they are all made, beside whatever media, the store has the other site afterwards
 abbrev pub WhatIsMadeGivesTheSite : Type 0

@@ -1,7 +1,7 @@
 //! Laws of a reload. Each function does nothing: its contract is the law.
 
-ghost use Rattle.doc_server_reload.specs.Laws.{LedGivesTheSite, LedIsMade, NothingLeadsToItself, ReloadIsARestart};
-ghost use Rattle.doc_server_reload.specs.Laws.{WhatIsMadeGivesTheSite};
+ghost use Rattle.doc_server_reload.specs.Laws.{LedGivesTheSite, LedIsMade, LedIsMadeBeside, NothingLeadsToItself};
+ghost use Rattle.doc_server_reload.specs.Laws.{ReloadIsARestart, WhatIsMadeGivesTheSite};
 
 /// The edits that lead a site to another make it the other, aliases included: where both are sites.
 #[tactic(auto, using(crate::proofs::LeadLaw::led_gives_the_site))]
@@ -19,6 +19,11 @@ pub fn nothing_leads_to_itself()
 /// a store's limits, and stamps are left for the edits.
 pub fn the_edits_are_made()
     ensures { LedIsMade }
+{}
+
+/// So it is beside media, where the other site has no page and no alias on the path of one.
+pub fn the_edits_are_made_beside_media()
+    ensures { LedIsMadeBeside }
 {}
 
 /// Where all of them are accepted, as `make_led` answers it of whatever store and media, the store has the other site afterwards.
