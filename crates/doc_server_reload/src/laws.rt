@@ -32,7 +32,8 @@ pub fn what_is_made_gives_the_site()
 {}
 
 /// A reload is a restart: the edits that lead a store to the site that its journal's records make of the configuration as it stands now are
-/// all made, and give this site. So a server that makes them serves what one that starts anew would serve.
+/// all made, and give this site: beside no media, where the configuration's site and the store's are sites, the one that is restored is
+/// within a store's limits, and stamps are left for the edits.
 pub fn a_reload_is_a_restart()
     ensures { ReloadIsARestart }
 {}
