@@ -1,0 +1,11 @@
+mod AlikeSteps
+mod BesideMedia
+mod Examples
+mod Fits
+pub mod Itself
+pub mod KeptSites
+pub mod LeadLaw
+pub mod MadeLaw
+mod PushSteps
+pub mod ReloadLaw
+mod Sizes

@@ -1,0 +1,5 @@
+use Rattle.doc_server_reload.proofs.MadeLaw.{led_is_made_beside}
+use Rattle.doc_server_reload.proofs.laws.the_edits_are_made_beside_media.Goals as goal
+
+pub returns : goal.returns
+returns c = led_is_made_beside

@@ -1,0 +1,39 @@
+//! Laws of a reload. Each function does nothing: its contract is the law.
+
+ghost use Rattle.doc_server_reload.specs.Laws.{LedGivesTheSite, LedIsMade, LedIsMadeBeside, NothingLeadsToItself};
+ghost use Rattle.doc_server_reload.specs.Laws.{ReloadIsARestart, WhatIsMadeGivesTheSite};
+
+/// The edits that lead a site to another make it the other, aliases included: where both are sites.
+#[tactic(auto, using(crate::proofs::LeadLaw::led_gives_the_site))]
+pub fn the_edits_give_the_site()
+    ensures { LedGivesTheSite }
+{}
+
+/// A reload that finds nothing changed makes no edit.
+#[tactic(auto, using(crate::proofs::Itself::nothing_leads_to_itself))]
+pub fn nothing_leads_to_itself()
+    ensures { NothingLeadsToItself }
+{}
+
+/// A store refuses none of the edits that lead its site to another, and has the other afterwards: where both are sites, the other is within
+/// a store's limits, and stamps are left for the edits.
+pub fn the_edits_are_made()
+    ensures { LedIsMade }
+{}
+
+/// So it is beside media, where the other site has no page and no alias on the path of one.
+pub fn the_edits_are_made_beside_media()
+    ensures { LedIsMadeBeside }
+{}
+
+/// Where all of them are accepted, as `make_led` answers it of whatever store and media, the store has the other site afterwards.
+pub fn what_is_made_gives_the_site()
+    ensures { WhatIsMadeGivesTheSite }
+{}
+
+/// A reload is a restart: the edits that lead a store to the site that its journal's records make of the configuration as it stands now are
+/// all made, and give this site: beside no media, where the configuration's site and the store's are sites, the one that is restored is
+/// within a store's limits, and stamps are left for the edits.
+pub fn a_reload_is_a_restart()
+    ensures { ReloadIsARestart }
+{}

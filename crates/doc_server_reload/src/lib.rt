@@ -1,0 +1,10 @@
+//! A reload: the edits that lead a site to another while it is served, from a configuration that was read anew.
+//!
+//! They give what a restart would give, and nothing is edited where nothing has changed.
+#![tactic(auto)]
+
+mod alike;
+pub mod laws;
+pub mod lead;
+pub mod making;
+mod pushing;
