@@ -74,13 +74,12 @@ pub struct Listening {
 }
 
 impl Listening {
-    /// What `listen` goes by, of a TOML 1.1 document: its table `listen` with `connections` (1 to 65,535,
-    /// else 1,024), `idle_seconds` (1 to 86,400, else 30), `media_bytes` (1 to 1,073,741,824, else
-    /// 67,108,864), `stranger_seconds` (1 to 86,400, else 5) and `request_seconds` (1 to 86,400, else 60), and its array `folder`, each with a `path`, a `prefix` (else none), `groups` (an array
-    /// of names, else none), `except` (an array of names of folders in it, else none), and what says how
-    /// its files are taken ([`Folder`]). These tables have no other keys; of the document's others the
-    /// `name` of each `reader` is its concern, which must be one (else none). Refusals come in the order of
-    /// [`ListeningError`], but that `Memory` may be answered before another one is found.
+    /// What `listen` goes by, of a TOML 1.1 document: its table `listen` with `connections` (1 to 65,535, else 1,024), `idle_seconds`
+    /// (1 to 86,400, else 30), `media_bytes` (1 to 1,073,741,824, else 67,108,864), `stranger_seconds` (1 to 86,400, else 5) and
+    /// `request_seconds` (1 to 86,400, else 60), and its array `folder`, each with a `path`, a `prefix` (else none), `groups` (an array
+    /// of names, else none), `except` (an array of names of folders in it, else none), and what says how its files are taken
+    /// ([`Folder`]). These tables have no other keys. Of the document's others the `name` of each `reader` is its concern (else none),
+    /// and that alone. Refusals come in the order of [`ListeningError`], but that `Memory` may be answered before another one is found.
     pub fn from_toml(heap: Heap, text: &str) -> Result<Listening, ListeningError>
         ensures read { IfOk result (λ listening. listening_of text.now ≡ Ok listening) }
         ensures refused { IfErr result

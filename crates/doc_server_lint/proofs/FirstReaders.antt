@@ -64,10 +64,13 @@ row_unnamed n row =
     (finding_unnamed n (codes "token") (naming_fault (get (codes "token") row) (get (codes "token_sha256") row)) refl)
     (keys_each (IsAt unnamed (place.Reader n)) (place.Reader n) reader_keys (λ key. get key row) (
       finding_unnamed n (codes "token") _ refl,
-      finding_unnamed n (codes "token_sha256") _ refl,
-      finding_unnamed n (codes "owner") _ refl,
-      finding_unnamed n (codes "groups") _ refl,
-      tt,
+      (
+        finding_unnamed n (codes "token_sha256") _ refl,
+        (
+          finding_unnamed n (codes "owner") _ refl,
+          (finding_unnamed n (codes "groups") _ refl, tt),
+        ),
+      ),
     ))
 
 naming_unnamed : (key : Option Key) → bytes_eq (naming_key key) (codes "name") ≡ false
@@ -235,7 +238,8 @@ of_table (Err other) e is = cc
 pub twice_is_told : (document : Members) (n : ℕ) → config_of_document document ≡ Err (BadReaders (Twice n))
     → first (findings_of document) ≡ Some (place.Reader n)
 twice_is_told document n is =
-    first_of_rows unnamed document (off place.Document refl) (off place.Markdown refl) (off place.Listen refl) (off place.Browse refl) (place.Reader n)
+    first_of_rows unnamed document (off place.Document refl) (off place.Markdown refl) (off place.Listen refl) (off place.Browse refl)
+    (place.Reader n)
     (first_append unnamed
     (faults_of_readers nobody_known 1 (rows_at (codes "reader") document) ++ faults_of_pages 1 (rows_at (codes "page") document))
     (faults_of_folders 1 (rows_at (codes "folder") document))

@@ -3,6 +3,7 @@ use Rattle.std.proofs.Common.{◌≡◌, ◌+◌, ℕ, List, [], ◌∷◌, ◌+
 use Rattle.std.specs.Prelude.{Option, Some, None, Result, Ok, Err, option_map, if◌then◌else◌}
 use Rattle.std.specs.Option.{option_or}
 use Rattle.toml.specs.Data.{Data, Items, no_items, item, Members, as_str, get, get_member}
+use Rattle.doc_page_parts.proofs.Bools.{and_false}
 use Rattle.doc_store_readers.specs.declared.entries.Entry.{Entry}
 use Rattle.doc_store_readers.specs.declared.groups.GroupsError.{GroupsError}
 use Rattle.doc_store_readers.specs.declared.groups.GroupsError.TheVariants as refusals
@@ -108,16 +109,20 @@ row_own n row =
     (finding_own n (codes "token") _ refl (naming_apart (get (codes "token") row) (get (codes "token_sha256") row)))
     (keys_each (IsAt own (place.Reader n)) (place.Reader n) reader_keys (λ key. get key row) (
       finding_own n (codes "token") _ refl (token_apart (get (codes "token") row)),
-      finding_own n (codes "token_sha256") _ refl (digest_apart (get (codes "token_sha256") row)),
-      finding_own n (codes "owner") _ refl (owner_apart (get (codes "owner") row)),
-      finding_own n (codes "groups") _ refl (held_apart (get (codes "groups") row)),
-      tt,
+      (
+        finding_own n (codes "token_sha256") _ refl (digest_apart (get (codes "token_sha256") row)),
+        (
+          finding_own n (codes "owner") _ refl (owner_apart (get (codes "owner") row)),
+          (finding_own n (codes "groups") _ refl (held_apart (get (codes "groups") row)), tt),
+        ),
+      ),
     ))
 
 again_apart : (n : ℕ) (key : List ℕ) (earlier : Option ℕ)
     → first_refusal own (finding_of true (place.Reader n) (Some key) (option_map TokenOf earlier)) ≡ None
 again_apart n key None = refl
-again_apart n key (Some m) = refl
+again_apart n key (Some m) = none_of_each own (finding_of true (place.Reader n) (Some key) (Some (TokenOf m)))
+    (and_false (not (bytes_eq key (codes "name"))), tt)
 
 name_off : (n : ℕ) (what : Option What)
     → Each (λ finding. own finding ≡ false) (finding_of true (place.Reader n) (Some (codes "name")) what)
