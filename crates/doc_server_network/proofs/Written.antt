@@ -33,9 +33,12 @@ module _ {D : Type 0} (seconds : ℕ) (waiting : Option (List ℕ)) where
     pub all_written : (text : List ℕ) (after : Journal D) → (length lines == 0) ≡ false → text ≡ lines
         → after.digest ≡ digest_behind journal.digest (record { time = time_of seconds; text = text }) → AreWritten o (Some after)
     all_written text after some same digest =
-        subst (λ p. AreWritten p (Some after)) (sym there)
-        (lines, known, subst (λ l. after.digest ≡ digest_behind journal.digest (record { time = time_of seconds; text = l })) same digest
-        ∙ behind lines some)
+        subst (λ p. AreWritten p (Some after)) (sym there) (
+          lines,
+          known,
+          subst (λ l. after.digest ≡ digest_behind journal.digest (record { time = time_of seconds; text = l })) same digest
+              ∙ behind lines some,
+        )
       where
         not_both : true ≡ false → ⊥
         not_both e = cc

@@ -111,7 +111,10 @@ impl<R: Renderer + Drop> Served<R> {
         if self.fault.is_some() {
             return false;
         }
-        match self.server.turn(rt, &mut self.net, &mut self.saved, &mut self.next) {
+        match self
+            .server
+            .turn(rt, &mut self.net, &mut self.saved, &mut self.next)
+        {
             Ok(_) => true,
             Err(fault) => {
                 self.fault = Some(fault);
