@@ -58,6 +58,13 @@ struct Ready {
     moves: List<Move>,
 }
 
+/// Who is told what passes: a log, where there is one, and the door, if the arguments ask for one.
+#[derive(Drop)]
+struct Told<'a, P> {
+    log: Option<AccessLog<'a, P>>,
+    standing: &'a Cell<Standing>,
+}
+
 /// Where the system tells what standard input is.
 const INPUT: &str = "/proc/self/fd/0";
 
@@ -96,17 +103,11 @@ pub fn run_listen<
                 media,
                 moves,
             };
-            let log = log_of(rt, form, &shared.names);
-            let status = listen_with(
-                rt,
-                renderer,
-                ready,
-                bounds,
-                command,
-                log,
-                &shared.standing,
-                &mut source,
-            );
+            let told = Told {
+                log: log_of(rt, form, &shared.names),
+                standing: &shared.standing,
+            };
+            let status = listen_with(rt, renderer, ready, bounds, command, told, &mut source);
             status_of(rt, status)
         }
         Err(fault) => status_of(rt, Err(fault)),
@@ -126,8 +127,7 @@ fn listen_with<
     ready: Ready,
     bounds: Bounds,
     command: &Listen<'_>,
-    log: Option<AccessLog<'a, P>>,
-    standing: &'a Cell<Standing>,
+    told: Told<'a, P>,
     source: &mut S,
 ) -> Result<u8, ListenFault> {
     let heap = rt.alloc();
@@ -147,7 +147,8 @@ fn listen_with<
         address: command.address,
         hears_input: is_pipe(rt),
     };
-    let watch = Watching::of(rt, log, monitors_of(rt, command.status, standing)?);
+    let monitors = monitors_of(rt, command.status, told.standing)?;
+    let watch = Watching::of(rt, told.log, monitors);
     let ended = listen_on(
         rt,
         heap,
