@@ -17,7 +17,11 @@ SITES = {"good": 'text = "A"\n', "absent": 'file = "absent.md"\n', "long": 'file
          "bounds": 'text = "A"\n[listen]\nconnections = 0\n', "folder": 'text = "A"\n[[folder]]\npath = "nowhere"\n',
          "twice": 'text = "A"\n[[folder]]\npath = "pages"\n', "bad": 'text = "A"\n[[folder]]\npath = "bad"\n',
          "on_bad": 'text = "A"\n[[folder]]\npath = "bad"\nnames = "nfc"\nreadme = true\non_bad = true\n', "except": 'text = "A"\n[[folder]]\npath = "pages"\nexcept = ["b/"]\n',
-         "both": 'file = "absent.md"\n[listen]\nidle_seconds = -1\n'}
+         "both": 'file = "absent.md"\n[listen]\nidle_seconds = -1\n',
+         # a name behind the folders' keys, and in front of the pages for people and of the files
+         "name": 'text = "A"\n[[reader]]\ntoken = "kot"\nname = "Ann"\n', "number": 'file = "absent.md"\n[[reader]]\ntoken = "kot"\nname = 5\n',
+         "folder_name": 'text = "A"\n[[reader]]\ntoken = "kot"\nname = "Ann"\n[[folder]]\nprefix = ""\n',
+         "name_title": 'text = "A"\n[[reader]]\ntoken = "kot"\nname = ""\n[browse]\ntitle = 1\n'}
 DIFFER = {"good": [b"put b.md - B\n"], "no_edit": [b"put b.md - B\n", b"connect\n"], "refused": [b"remove b.md\n", b"move b.md c.md\n"],
           "long_path": [b"put " + b"a" * 201 + b" - B\n"], "empty_line": [b"\n"], "no_text": [b"put b.md -\n"],
           "latin": [b"put b.md - \xff\n"]}
@@ -30,12 +34,16 @@ USAGES = ((["listen"], ()), (["listen", "good.toml"], ()), (["listen", "good.tom
           (["compact", "good.toml", "--journal"], ("--journal needs a file",)),
           (["compact", "good.toml", "--journal", "good", "x"], ("unknown option: x",)),
           (["compact", "good.toml", "--log", "good"], ("unknown option: --log",)), (["folders"], ()), (["folders", "good.toml", "x"], ()))
+BAD_NAME = "`name` must be 1 to 32 of a-z, 0-9, `-`, `_`, `.` and `@`"
 # what is told above the line that stops it, where the document is refused; the first is the TOML reader's
 ABOVE = {"no.toml": r"no\.toml:1:4: \S.*\n",
          **{f"{name}.toml": re.escape(f"{name}.toml{told}\n") for name, told in (
              ("bounds", ": [listen]: `connections` must be an integer from 1 to 65535"),
              ("both", ": [listen]: `idle_seconds` must be an integer from 1 to 86400"),
-             ("on_bad", ":7: folder 1: `on_bad` must be a string"), ("except", ":7: folder 1: `except` is bad"))}}
+             ("on_bad", ":7: folder 1: `on_bad` must be a string"), ("except", ":7: folder 1: `except` is bad"),
+             ("name", f":7: reader 2: {BAD_NAME}"), ("number", ":7: reader 2: `name` must be a string"),
+             ("folder_name", f":7: reader 2: {BAD_NAME}\nfolder_name.toml:10: folder 1: no `path`"),
+             ("name_title", f": [browse]: `title` must be a string\nname_title.toml:7: reader 2: {BAD_NAME}"))}}
 NEW = "docs_server: new journal kept\n"
 MOVED = "docs_server: journal moved\n"
 NO_ADDRESSES = ("", HOST, "localhost", "localhost:", ":80", f"{HOST}:", f"{HOST}:65536", "256.0.0.1:80", "::1:80")
@@ -97,7 +105,9 @@ class Later:
         """The configuration, the files that it names, its folders; then the journal."""
         for config, line in (("nowhere.toml", "cannot read nowhere.toml"), ("no.toml", "config"), ("absent.toml", "cannot read absent.md"),
                              ("both.toml", "config: `idle_seconds` is bad"), ("folder.toml", "cannot read nowhere"),
-                             ("on_bad.toml", "config: folder 1: `on_bad` is bad")):
+                             ("on_bad.toml", "config: folder 1: `on_bad` is bad"), ("name.toml", "config: reader 2: `name` is bad"),
+                             ("number.toml", "config: reader 2: `name` is bad"), ("folder_name.toml", "config: folder 1: `path` is bad"),
+                             ("name_title.toml", "config: reader 2: `name` is bad")):
             stops(["folders", config], line, stdout=self.full)
         stops(["folders", "bad.toml"], "cannot write", stdout=self.full)
         for journal in ("good", "damaged"):
@@ -110,6 +120,10 @@ class Later:
             self.both("absent.toml", journal, "cannot read absent.md")
             self.both("folder.toml", journal, "cannot read nowhere")
             self.both("except.toml", journal, "config: folder 1: `except` is bad")
+            self.both("name.toml", journal, "config: reader 2: `name` is bad")
+            self.both("number.toml", journal, "config: reader 2: `name` is bad")
+            self.both("folder_name.toml", journal, "config: folder 1: `path` is bad")
+            self.both("name_title.toml", journal, "config: reader 2: `name` is bad")
             self.both("twice.toml", journal, "config: a.md twice")
         stops(["listen", "long.toml", self.taken, "--journal", "damaged"], "refused", stdout=self.full)
 

@@ -277,11 +277,10 @@ def sign_in(token, user="somebody"):
 
 def names():
     """Who asks, as JSON has it: a name, or the number of the row, of whom the configuration knows, and `-` for all others and for guests.
-    A password counts where readers may sign in by one. What isn't a good name is none."""
-    rows = (("a", 'name = "ann"'), ("b", ""), ("c", 'name = "Ann"'), ("d", 'name = "j.doe-2_x@example.org"'), ("e", "name = 5"),
-            ("f", f'name = "{"n" * 32}"'), ("g", f'name = "{"n" * 33}"'), ("h", 'name = ""'), ("i", 'name = "ann"'),
-            ("j", 'name = "an\\"n"'))
-    good = {"a": "ann", "d": "j.doe-2_x@example.org", "f": "n" * 32, "i": "ann"}
+    A password counts where readers may sign in by one."""
+    rows = (("a", 'name = "ann"'), ("b", ""), ("c", 'name = "-"'), ("d", 'name = "j.doe-2_x@example.org"'), ("e", "Name = 5"),
+            ("f", f'name = "{"n" * 32}"'), ("g", 'name = "reader-1"'), ("h", "owner = true"), ("i", 'name = "ann"'), ("j", "groups = []"))
+    good = {"a": "ann", "c": "-", "d": "j.doe-2_x@example.org", "f": "n" * 32, "g": "reader-1", "i": "ann"}
     readers = "".join(f'[[reader]]\ntoken = "tok-{token}-12af"\n{line}\n' for token, line in rows)
     page = '[[page]]\npath = "a.md"\ntext = "Hello"\n'
     SECRETS.extend(f"tok-{token}-12af" for token, _ in rows)

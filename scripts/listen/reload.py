@@ -92,6 +92,11 @@ def refused():
     for name, text, said in (
         ("a bad key", good.replace('groups = ["green"]', 'groups = "green"', 1),
          f"reload refused: site.toml:{line - 1}: reader 2: `groups` must be an array of strings\nreload refused: config\n"),
+        ("a bad name", good + row(TOKENS[2], name="Cleo"),
+         f"reload refused: site.toml:{good.count(chr(10)) + 1}: reader 3: `name` must be 1 to 32 of a-z, 0-9, `-`, `_`, `.` and `@`\n"
+         "reload refused: config: reader 3: `name` is bad\n"),
+        ("a bad key, by name", good + row(TOKENS[2], name="cleo").replace("groups = []", "groups = 5"),
+         f"reload refused: site.toml:{good.count(chr(10)) + 1}: reader 3 (cleo): `groups` must be an array of strings\nreload refused: config\n"),
         ("no document", good + "x =\n", None),
         ("one token twice", good.replace(TOKENS[1], TOKENS[0]), None),
         ("another setting", good.replace("cache = 7", "cache = 8"), "reload refused: needs a restart: `cache`\n"),

@@ -65,6 +65,8 @@ def told(name, text, *lines, by="config"):
 
 # ---- each alone
 
+BAD_NAME, NO_STRING = "`name` must be 1 to 32 of a-z, 0-9, `-`, `_`, `.` and `@`", "`name` must be a string"
+REFUSED_NAME = "config: reader 2: `name` is bad"
 READER_FAULTS = {"owner = 1": "`owner` must be a boolean", 'groups = "team"': "`groups` must be an array of strings",
                  "groups = [1]": "`groups` must be an array of strings", 'groups = ["Team"]': '`groups`: "Team" is no name of a group',
                  f"groups = {[f'g{i}' for i in range(33)]}".replace("'", '"'): "`groups`: more than 32"}
@@ -129,15 +131,53 @@ def readers():
     told("twice", GOOD + f'[[reader]]\ntoken = "{TOKEN}"\n', ":8: reader 2: the token of reader 1", f":8: reader 2: {CLEAR}")
     told("twice by digest", GOOD + f"[[reader]]\n{KEY}\n", ":8: reader 2: the token of reader 1")
     told("in clear", GOOD + f'[[reader]]\ntoken = "{TOKEN}2"\n', f":8: reader 2: {CLEAR}")
-    for name in ("ann", "n" * 32, "j.doe-2_x@example.org"):
-        told(f"name {name}", GOOD + f'[[reader]]\n{OTHER_KEY}\nname = "{name}"\n')
-    for name in ('"Ann"', '""', f'"{"n" * 33}"', '"a b"', "5", '["ann"]'):
-        told(f"name {name}", GOOD + f"[[reader]]\n{OTHER_KEY}\nname = {name}\n",
-             ":8: reader 2: warning: `name` must be 1 to 32 of a-z, 0-9, `-`, `_`, `.` and `@`")
     told("no digest", GOOD + '[[reader]]\ntoken_sha256 = "ab"\n', ":8: reader 2: `token_sha256` is bad")
     told("both", GOOD + f'[[reader]]\ntoken = "{TOKEN}2"\ntoken_sha256 = "{64 * "0"}"\n', ":8: reader 2: both `token` and `token_sha256`")
     told("short", GOOD + '[[reader]]\ntoken = "tok"\n', ":8: reader 2: warning: a token of fewer than 22 characters can be guessed")
     told("onwer", GOOD + f'[[reader]]\n{OTHER_KEY}\nonwer = true\n', ":8: reader 2: warning: unknown key `onwer`: is `owner` meant?")
+
+
+NO_NAMES = {'"Ann"': BAD_NAME, '""': BAD_NAME, f'"{"n" * 33}"': BAD_NAME, '"a b"': BAD_NAME, '"a/b"': BAD_NAME, '"änn"': BAD_NAME,
+            '"an\\u0000n"': BAD_NAME, "5": NO_STRING, '["ann"]': NO_STRING, "true": NO_STRING}
+
+
+def names():
+    """What is told of the names of readers, and by which name a row is told."""
+    for name in ("ann", "7", "n" * 32, "j.doe-2_x@example.org"):
+        row = f'[[reader]]\n{OTHER_KEY}\nname = "{name}"\n'
+        told(f"name {name}", GOOD + row)
+        told(f"fault of {name}", f"{GOOD}{row}owner = 1\n", f":8: reader 2 ({name}): `owner` must be a boolean")
+        told(f"warning of {name}", f"{GOOD}{row}onwer = 1\n", f":8: reader 2 ({name}): warning: unknown key `onwer`: is `owner` meant?")
+    told("a name beside a bad token", GOOD + f'[[reader]]\ntoken = "{TOKEN} "\nname = "ann"\n', ":8: reader 2 (ann): `token` is no bearer token")
+    told("one name twice", GOOD.replace("owner", 'name = "ann"\nowner') + f'[[reader]]\n{OTHER_KEY}\nname = "ann"\n')
+    for name, text in NO_NAMES.items():
+        bad = f"[[reader]]\n{OTHER_KEY}\nname = {name}\n"
+        told(f"no name {name}", GOOD + bad, f":8: reader 2: {text}", by=REFUSED_NAME)
+        # the other commands that read it refuse it alike, and those that don't pass it over
+        lines = f"site.toml:8: reader 2: {text}\ndocs_server: {REFUSED_NAME}\n"
+        for words in (["folders", "site.toml"], ["compact", "site.toml", "--journal", "nowhere"]):
+            found = ran(words)
+            scene.check(f"no name {name}: {words[0]}", (found.stderr.decode(), found.returncode) == (lines, 2), found)
+        for words in (["check", "site.toml", TOKEN], ["replay", "site.toml"], ["serve", "site.toml", f"{HOST}:0", "0", "1"]):
+            found = ran(words, input=b"")
+            put("site.toml", GOOD)
+            wanted = ran(words, input=b"")
+            scene.check(f"no name {name}: {words[0]}", found.returncode == wanted.returncode == 0 and found.stderr == wanted.stderr == b"",
+                        f"wanted {wanted}, found {found}")
+            put("site.toml", GOOD + bad)
+        told(f"no name {name}, and no owner", f"{GOOD}{bad}owner = 1\n", ":8: reader 2: `owner` must be a boolean", f":8: reader 2: {text}")
+        # names come behind folders and in front of the pages for people
+        told(f"no name {name}, and no folder", f'{GOOD}{bad}[[folder]]\nprefix = "a"\n', f":8: reader 2: {text}", ":11: folder 1: no `path`",
+             by="config: folder 1: `path` is bad")
+        told(f"no name {name}, and no pages for people", f"{GOOD}{bad}[browse]\ntitle = 1\n", ": [browse]: `title` must be a string",
+             f":8: reader 2: {text}", by=REFUSED_NAME)
+        told(f"no name {name}, and no bounds", f"{GOOD}{bad}[listen]\nconnections = 0\n", f": [listen]: {LISTEN_FAULTS['connections = 0']}",
+             f":8: reader 2: {text}", by="config: `connections` is bad")
+        told(f"no name {name}, and no token", f"{GOOD}{bad}[[reader]]\n", f":8: reader 2: {text}", ":11: reader 3: no `token`")
+        told(f"no name {name} and another", GOOD.replace("owner", f"name = {name}\nowner") + bad, f":1: reader 1: {text}",
+             f":9: reader 2: {text}", by=REFUSED_NAME.replace("2", "1"))
+        told(f"no name {name} of the same token", f"{GOOD}{bad.replace(OTHER_KEY, KEY)}", ":8: reader 2: the token of reader 1",
+             f":8: reader 2: {text}")
 
 
 def pages():
@@ -311,6 +351,8 @@ def good_row(key, number):
     """The lines of a good row."""
     if key == "reader":
         lines = [written("token", f'"{TOKEN}-{number}"'), written("owner", "true"), written("groups", '["team", "ops"]')]
+        if random.random() < 0.5:
+            lines.append(written("name", f'"ann_{number}@example.org"'))
     elif key == "page":
         lines = [written("path", f'"pages/{number}.md"'), written("text", '"""\nA text\n"""' if random.random() < 0.3 else '"A text"')]
     else:
@@ -321,38 +363,41 @@ def good_row(key, number):
     return lines
 
 
-SEEDS = {"reader": [("owner = 1", "`owner` must be a boolean"), ('token = "a b"', "`token` is no bearer token")],
+SEEDS = {"reader": [("owner = 1", "`owner` must be a boolean"), ('token = "a b"', "`token` is no bearer token"), ('name = "Ann"', BAD_NAME),
+                    ("name = 5", NO_STRING)],
          "page": [('path = "/a"', "`path` is no path of a page"), ('file = "x"', "both `text` and `file`"), ('groups = ["A"]', "")],
          "folder": [('names = "nfd"', "`names` is bad"), ("readme = 1", "`readme` must be a boolean"),
                     ("colour = 1", "unknown key `colour`")]}
 
 
-def with_fault(lines, seed):
-    """A row in which a line stands in the place of the one that has its key, or behind the others."""
+def with_fault(table, lines, seed):
+    """A row in which a line stands in the place of the one that has its key, or behind the others, and what stands behind its place."""
     key = seed.split(" ")[0]
     kept = [line for line in lines if not re.match(rf"\s*{key}\s*=", line)]
-    return kept + [seed]
+    names = [re.match(rf'\s*{ {"reader": "name", "page": "path"}.get(table, "no key") }\s*=\s*"([^"]*)"', line) for line in kept]
+    return kept + [seed], "".join(f" ({it[1]})" for it in names if it)
 
 
 def random_text(fault):
-    """A configuration, and where the fault was put: its table, its row and its line, and whether a text before it looks like a header."""
+    """A configuration, and where the fault was put: its row, with the name that is told, and its line, and whether a text before it looks
+    like a header."""
     table, (seed, _) = fault if fault else (None, ("", ""))
     counts = {"reader": random.randint(1, 5), "page": random.randint(1, 8), "folder": random.randint(1, 3)}
     row = random.randint(1, counts[table]) if table else 0
     keys = list(counts)
     random.shuffle(keys)
-    out, line, has_decoy, decoyed = [], None, False, False
+    out, line, named, has_decoy, decoyed = [], None, "", False, False
     for key, number in ((key, number) for key in keys for number in range(1, counts[key] + 1)):
         out += random.choice([[], [""], ["# a row"], [f"# [[{key}]]"]])
         lines = good_row(key, number)
         if (key, number) == (table, row):
             line, decoyed = "\n".join(out + [""]).count("\n") + 1, has_decoy
-            lines = with_fault(lines, seed)
+            lines, named = with_fault(table, lines, seed)
         elif key == "page" and random.random() < 0.1:
             lines = [it for it in lines if not it.lstrip().startswith("text")] + [f'text = """\n[[{table or "page"}]]\n"""']
             has_decoy = True
         out += [header(key)] + lines
-    return "\n".join(out) + "\n", row, line, decoyed
+    return "\n".join(out) + "\n", f"{row}{named}", line, decoyed
 
 
 def tried(number):
@@ -365,7 +410,7 @@ def tried(number):
     if fault:
         table, (seed, words) = fault
         where = rf"(:{line})?" if decoyed else f":{line}"
-        form = rf"site\.toml{where}: {table} {row}( \([^)]*\))?: .*{re.escape(words)}"
+        form = rf"site\.toml{where}: {table} {re.escape(row)}: .*{re.escape(words)}"
         scene.check(f"text {number}: {seed}", len(bad) == 1 and re.fullmatch(form, bad[0]) and status == 1 and not error,
                     f"wanted {form!r}, found {found}, status {status}, {error!r}\n{text}")
     else:
@@ -383,6 +428,7 @@ def main():
     documents()
     tables()
     readers()
+    names()
     pages()
     folders()
     files()

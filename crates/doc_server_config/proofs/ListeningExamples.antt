@@ -1,8 +1,10 @@
 -- The definitions on worked examples.
 use Rattle.std.proofs.Common.{◌≡◌, [], ◌∷◌, ◌++◌, true, false, codes, refl}
-use Rattle.std.specs.Prelude.{Some, None, Ok, Err}
+use Rattle.std.specs.Prelude.{Some, None, Ok, Err, option_and_then}
 use Rattle.std.specs.Path.{rsplit_once}
 use Rattle.std.specs.Str.{chars}
+use Rattle.toml.specs.Data.{get_member}
+use Rattle.toml.specs.Parse.{parse_document}
 use Rattle.toml.proofs.OnLiterals.{toml_on_literals}
 use Rattle.doc_server_config.specs.declared.reason.Reason.TheVariants.{BadCharacter, Control, ManyParts}
 use Rattle.doc_page_parts.specs.Paths.{is_path}
@@ -10,11 +12,13 @@ use Rattle.doc_store_readers.specs.Groups.{groups_of_names}
 use Rattle.doc_server_config.specs.declared.folder.FolderFault.TheVariants.{OtherKey, BadFile, BadPrefix, BadGroups, BadExcept, BadNames, BadReadme}
 use Rattle.doc_server_config.specs.declared.folder.FolderFault.TheVariants.{BadMedia, BadOnBad}
 use Rattle.doc_server_config.specs.declared.listening.ListeningError.TheVariants.{BadToml, BadListen, BadConnections, BadIdleSeconds, BadMediaBytes}
-use Rattle.doc_server_config.specs.declared.listening.ListeningError.TheVariants.{BadFolders, BadFolder, BadStrangerSeconds, BadRequestSeconds}
+use Rattle.doc_server_config.specs.declared.listening.ListeningError.TheVariants.{BadFolders, BadFolder, BadName, BadStrangerSeconds, BadRequestSeconds}
 use Rattle.doc_server_config.specs.Excepted.{is_excepted}
 use Rattle.doc_server_config.specs.FileNames.{path_in_folder}
 use Rattle.doc_server_config.specs.Listenings.{listening_of}
 use Rattle.doc_server_config.specs.Overlaps.{first_overlap}
+use Rattle.doc_server_config.specs.ReaderNames.{bad_name_in, name_at}
+use Rattle.doc_server_names.specs.Names.{is_name}
 use Rattle.doc_server_config.specs.Readmes.{index_move}
 
 -- ---- what is read
@@ -254,3 +258,28 @@ no_seconds_of_strangers = refl
 a_day_and_a_second : listening_of (codes "listen = { request_seconds = 86401, stranger_seconds = 1 }") ≡ Err BadRequestSeconds
 unfolding toml_on_literals
 a_day_and_a_second = refl
+
+-- names of readers, which come last
+no_names :
+    (listening_of (codes "[[reader]]\nname = \"ann\"\n[[reader]]\n[[reader]]\nname = \"Ann\"\n[[reader]]\nname = 5\n") ≡ Err (BadName 3))
+    × (listening_of (codes "[[reader]]\nname = 5\n") ≡ Err (BadName 1))
+    × (listening_of (codes "[[reader]]\nname = \"\"\n") ≡ Err (BadName 1))
+    × (listening_of (codes "[[reader]]\nname = \"a b\"\n[[folder]]\n") ≡ Err (BadFolder 1 BadFile))
+unfolding toml_on_literals is_name
+no_names = (refl, refl, refl, refl)
+
+long_names :
+    (option_and_then bad_name_in (parse_document (codes "[[reader]]\nname = \"12345678901234567890123456789012\"\n")) ≡ None)
+    × (option_and_then bad_name_in (parse_document (codes "[[reader]]\nname = \"123456789012345678901234567890123\"\n")) ≡ Some 1)
+unfolding toml_on_literals is_name
+long_names = (refl, refl)
+
+a_good_name : option_and_then (λ row. name_at (get_member (codes "name") row)) (parse_document (codes "name = \"j.doe-2_x@example.org\"\n"))
+    ≡ Some (codes "j.doe-2_x@example.org")
+unfolding toml_on_literals is_name
+a_good_name = refl
+
+-- whether the readers are tables is no matter of their names
+no_readers : option_and_then bad_name_in (parse_document (codes "reader = 1\n")) ≡ None
+unfolding toml_on_literals
+no_readers = refl

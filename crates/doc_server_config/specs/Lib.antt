@@ -13,6 +13,7 @@ pub mod Readmes
 pub mod Reasons
 pub mod BadFiles
 pub mod Keys
+pub mod ReaderNames
 pub mod Listenings
 pub mod Overlaps
 pub mod OverlapSteps

@@ -1,4 +1,5 @@
--- What `listen` reads of a configuration. The order of the refusals is this project's choice: no TOML, the bounds, the folders.
+-- What `listen` reads of a configuration. The order of the refusals is this project's choice: no TOML, the bounds, the folders, the names
+-- of readers.
 use Rattle.std.specs.Prelude.{ℕ, List, [], codes, Option, Some, None, Result, Ok, Err}
 use Rattle.toml.specs.Data.{Items, Members, get_member}
 use Rattle.toml.specs.Parse.{parse_document}
@@ -7,9 +8,10 @@ use Rattle.doc_server_config.specs.declared.bounds.Bounds.{Bounds}
 use Rattle.doc_server_config.specs.declared.folder.Folder.{Folder}
 use Rattle.doc_server_config.specs.declared.listening.Listening.{Listening}
 use Rattle.doc_server_config.specs.declared.listening.ListeningError.{ListeningError}
-use Rattle.doc_server_config.specs.declared.listening.ListeningError.TheVariants.{BadToml, BadFolders}
+use Rattle.doc_server_config.specs.declared.listening.ListeningError.TheVariants.{BadToml, BadFolders, BadName}
 use Rattle.doc_server_config.specs.Bounds.{bounds_in}
 use Rattle.doc_server_config.specs.Folders.{folders_from}
+use Rattle.doc_server_config.specs.ReaderNames.{bad_name_in}
 
 -- what these parts are
 abbrev pub listening_with : Bounds → List Folder → Listening
@@ -30,9 +32,15 @@ abbrev pub with_bounds : Members → Result Bounds ListeningError → Result Lis
 with_bounds document (Err e) = Err e
 with_bounds document (Ok bounds) = with_tables bounds (tables_at (get_member (codes "folder") document))
 
+-- the same where a reader may have a bad name
+abbrev pub unless_named : Result Listening ListeningError → Option ℕ → Result Listening ListeningError
+unless_named (Err e) bad = Err e
+unless_named (Ok listening) None = Ok listening
+unless_named (Ok listening) (Some row) = Err (BadName row)
+
 -- what `listen` reads of a document, or the first refusal
 abbrev pub listening_of_document : Members → Result Listening ListeningError
-listening_of_document document = with_bounds document (bounds_in document)
+listening_of_document document = unless_named (with_bounds document (bounds_in document)) (bad_name_in document)
 
 -- what it reads of what should be a document
 abbrev pub listening_in : Option Members → Result Listening ListeningError

@@ -1,6 +1,7 @@
 //! The configuration of a site: its settings, its readers and its pages, as a TOML document has them.
 //!
-//! Of it `listen` alone reads its bounds, the folders whose files are pages, and what it says of the pages for people.
+//! Of it `listen` alone reads its bounds, the folders whose files are pages, the names of readers, and what it says of the pages for
+//! people.
 //!
 //! What a folder holds no contract can say. What is trusted: that the system names each file of a folder, and tells files from folders
 //! and links.
@@ -24,6 +25,7 @@ pub mod markdown;
 pub mod media_names;
 pub mod overlap;
 pub mod page_row;
+pub mod reader_names;
 pub mod readme;
 pub mod reason;
 pub mod settings;

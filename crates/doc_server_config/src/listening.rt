@@ -6,6 +6,7 @@ ghost use Rattle.doc_server_config.specs.Listenings.{listening_of, listening_of_
 
 use crate::bounds::{Bounds, bounds_in};
 use crate::folder::{Folder, FolderFault, folders_of};
+use crate::reader_names::bad_name_in;
 use doc_page_parts::failure::Memory;
 use doc_page_parts::heap::Heap;
 use doc_page_parts::list::List;
@@ -14,7 +15,7 @@ use doc_store_readers::tables::{document_of, tables_at};
 use thiserror::Error;
 use toml::Table;
 
-/// Why a text says nothing that `listen` could go by. Folders are counted from 1.
+/// Why a text says nothing that `listen` could go by. Folders and readers are counted from 1.
 #[derive(Clone, Copy, Debug, Error)]
 pub enum ListeningError {
     /// The text is no TOML document.
@@ -45,6 +46,9 @@ pub enum ListeningError {
     /// The first folder that is none, and its first fault.
     #[error("folder {0}: {1}")]
     BadFolder(usize, FolderFault),
+    /// The first reader whose `name` is no string of 1 to 32 of a-z, 0-9, `-`, `_`, `.` and `@`.
+    #[error("reader {0}: `name` is bad")]
+    BadName(usize),
     #[error("{}", Memory)]
     Memory,
 }
@@ -70,13 +74,12 @@ pub struct Listening {
 }
 
 impl Listening {
-    /// What `listen` goes by, of a TOML 1.1 document: its table `listen` with `connections` (1 to 65,535,
-    /// else 1,024), `idle_seconds` (1 to 86,400, else 30), `media_bytes` (1 to 1,073,741,824, else
-    /// 67,108,864), `stranger_seconds` (1 to 86,400, else 5) and `request_seconds` (1 to 86,400, else 60), and its array `folder`, each with a `path`, a `prefix` (else none), `groups` (an array
-    /// of names, else none), `except` (an array of names of folders in it, else none), and what says how
-    /// its files are taken ([`Folder`]). These tables have no other keys; those of the document are not its
-    /// concern. Refusals come in the order of [`ListeningError`], but that `Memory` may be answered
-    /// before another one is found.
+    /// What `listen` goes by, of a TOML 1.1 document: its table `listen` with `connections` (1 to 65,535, else 1,024), `idle_seconds`
+    /// (1 to 86,400, else 30), `media_bytes` (1 to 1,073,741,824, else 67,108,864), `stranger_seconds` (1 to 86,400, else 5) and
+    /// `request_seconds` (1 to 86,400, else 60), and its array `folder`, each with a `path`, a `prefix` (else none), `groups` (an array
+    /// of names, else none), `except` (an array of names of folders in it, else none), and what says how its files are taken
+    /// ([`Folder`]). These tables have no other keys. Of the document's others the `name` of each `reader` is its concern (else none),
+    /// and that alone. Refusals come in the order of [`ListeningError`], but that `Memory` may be answered before another one is found.
     pub fn from_toml(heap: Heap, text: &str) -> Result<Listening, ListeningError>
         ensures read { IfOk result (λ listening. listening_of text.now ≡ Ok listening) }
         ensures refused { IfErr result
@@ -102,6 +105,9 @@ impl Listening {
             return Err(ListeningError::BadFolders);
         };
         let folders = folders_of(heap, tables)?;
-        Ok(Listening { bounds, folders })
+        match bad_name_in(document) {
+            Some(row) => Err(ListeningError::BadName(row)),
+            None => Ok(Listening { bounds, folders }),
+        }
     }
 }

@@ -11,9 +11,12 @@ use Rattle.doc_server_config.specs.Bounds.{bounds_at, bounds_in}
 use Rattle.doc_server_config.specs.Browsing.{browse_at}
 use Rattle.doc_server_config.specs.Configurations.{with_pages, with_readers, with_settings}
 use Rattle.doc_server_config.specs.Folders.{folder_of, folders_from}
-use Rattle.doc_server_config.specs.Listenings.{with_bounds, with_folders, with_tables}
+use Rattle.doc_server_config.specs.declared.listening.Listening.{Listening}
+use Rattle.doc_server_config.specs.declared.listening.ListeningError.{ListeningError}
+use Rattle.doc_server_config.specs.Listenings.{unless_named, with_bounds, with_folders, with_tables}
 use Rattle.doc_server_config.specs.Markdown.{markdown_at}
 use Rattle.doc_server_config.specs.PageRows.{page_of, pages_from}
+use Rattle.doc_server_config.specs.ReaderNames.{bad_name_in, bad_name_of, has_good_name}
 use Rattle.doc_server_config.specs.Settings.{cache_at, entities_at, keep_alive_at, settings_in, settings_with}
 use Rattle.doc_server_lint.specs.declared.finding.Finding.{Finding}
 use Rattle.doc_server_lint.specs.declared.place.Place.TheVariants as place
@@ -29,7 +32,7 @@ use Rattle.doc_server_lint.specs.Values.{key_fault}
 use Rattle.doc_server_lint.specs.Warnings.{warnings_of}
 use Rattle.doc_server_lint.proofs.Clear.{allows, cache_good, clear_append, entities_good, keys_clear, tables_good, told_allows}
 use Rattle.doc_server_lint.proofs.ClearReaders.{readers_taken}
-use Rattle.doc_server_lint.proofs.ClearRows.{are_fresh, each, folders_clear, folders_taken, pages_clear, pages_taken, readers_clear}
+use Rattle.doc_server_lint.proofs.ClearRows.{are_fresh, each, folders_clear, folders_taken, names_taken, pages_clear, pages_taken, readers_clear}
 use Rattle.doc_server_lint.proofs.ClearTables.{browse_clear, listen_clear, markdown_clear}
 use Rattle.doc_server_lint.proofs.ClearWarnings.{warnings_quiet}
 
@@ -97,6 +100,16 @@ listening_parts (Ok bounds) document = by (tables_at (get_member (codes "folder"
     by : (tables : Option Items) → is_ok (with_tables bounds tables) ≡ good_rows (λ row. is_ok (folder_of row)) tables
     by None = refl
     by (Some tables) = folders (folders_from [] 1 tables) ∙ folders_taken [] 1 tables
+
+names_parts : (tables : Option Items) → each has_good_name (rows_of tables) ≡ not (is_some (bad_name_of tables))
+names_parts None = refl
+names_parts (Some rows) = sym (names_taken 1 rows)
+
+named_parts : (listening : Result Listening ListeningError) (bad : Option ℕ)
+    → is_ok (unless_named listening bad) ≡ (is_ok listening && not (is_some bad))
+named_parts (Err e) bad = refl
+named_parts (Ok listening) None = refl
+named_parts (Ok listening) (Some row) = refl
 
 -- ---- all parts together
 
@@ -191,6 +204,16 @@ module _ (a c e m4 r5 p6 l7 f8 b9 m l b r p f : Bool) where
   sorted : told_in_order a c e m4 r5 p6 l7 f8 b9 m l b r p f ≡ read_in_order a c e m4 r5 p6 l7 f8 b9 m l b r p f
   sorted = same_bool (told_in_order a c e m4 r5 p6 l7 f8 b9 m l b r p f) (read_in_order a c e m4 r5 p6 l7 f8 b9 m l b r p f) forth back
 
+-- names are told among the readers, and read behind the folders
+named_behind : (r own name s l b : Bool) → (((r && (own && name)) && s) && (l && b)) ≡ (((r && own) && s) && ((l && name) && b))
+named_behind false own name s l b = refl
+named_behind true false name s l b = refl
+named_behind true true true s true b = refl
+named_behind true true true s false b = refl
+named_behind true true false false l b = refl
+named_behind true true false true true b = refl
+named_behind true true false true false b = refl
+
 -- ---- the law
 
 document_clear : (document : Members) → is_clear (faults_of document) ≡ is_taken document
@@ -229,13 +252,27 @@ document_clear document =
     ∙ (λ i. ((readers i && readers_good i)
     && ((keep_alive i && (cache i && (entities i && markdown_clear (at (codes "markdown")) i))) && (pages i && pages_good i)))
     && ((listen_clear (at (codes "listen")) i && (folders i && folders_good i)) && browse_clear (at (codes "browse")) i))
+    ∙ named_behind (is_some (tables_at (at (codes "reader"))))
+    (each (λ row. is_some (entry_of row)) (rows_at (codes "reader") document)
+    && are_fresh nobody_known 1 (rows_at (codes "reader") document))
+    (each has_good_name (rows_at (codes "reader") document))
+    ((is_some (keep_alive_at (at (codes "keep_alive"))) && (is_some (cache_at (at (codes "cache")))
+    && (is_some (entities_at (at (codes "entities"))) && is_some (markdown_at (at (codes "markdown"))))))
+    && (is_some (tables_at (at (codes "page"))) && each (λ row. is_some (page_of row)) (rows_at (codes "page") document)))
+    (is_ok (bounds_at (at (codes "listen")))
+    && (is_some (tables_at (at (codes "folder"))) && each (λ row. is_ok (folder_of row)) (rows_at (codes "folder") document)))
+    (is_ok (browse_at (at (codes "browse"))))
     ∙ (λ i. (readers_parts (tables_at (at (codes "reader"))) i
     && (sym (settings_parts (keep_alive_at (at (codes "keep_alive"))) (cache_at (at (codes "cache"))) (entities_at (at (codes "entities")))
     (markdown_at (at (codes "markdown")))) i && rows_split (λ row. is_some (page_of row)) (tables_at (at (codes "page"))) i))
-    && ((is_ok (bounds_at (at (codes "listen"))) && rows_split (λ row. is_ok (folder_of row)) (tables_at (at (codes "folder"))) i)
+    && (((is_ok (bounds_at (at (codes "listen"))) && rows_split (λ row. is_ok (folder_of row)) (tables_at (at (codes "folder"))) i)
+    && names_parts (tables_at (at (codes "reader"))) i)
     && is_ok (browse_at (at (codes "browse")))))
     ∙ (λ i. sym (config_parts (readers_of_document document) document) i
-    && (sym (listening_parts (bounds_in document) document) i && is_ok (browse_at (at (codes "browse")))))
+    && ((sym (listening_parts (bounds_in document) document) i && not (is_some (bad_name_in document)))
+    && is_ok (browse_at (at (codes "browse")))))
+    ∙ (λ i. is_ok (with_readers document (readers_of_document document))
+    && (sym (named_parts (with_bounds document (bounds_in document)) (bad_name_in document)) i && is_ok (browse_at (at (codes "browse")))))
 
 pub taken_is_clear : (document : Members) → is_clear (findings_of document) ≡ is_taken document
 taken_is_clear document =

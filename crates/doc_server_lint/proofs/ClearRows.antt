@@ -27,12 +27,15 @@ use Rattle.doc_server_config.specs.Excepted.{except_at}
 use Rattle.doc_server_config.specs.Keys.{has_only, keys_in}
 use Rattle.doc_server_config.specs.MediaNames.{media_at}
 use Rattle.doc_server_config.specs.PageRows.{page_of, page_with, pages_from, path_at, source_of}
+use Rattle.doc_server_config.specs.ReaderNames.{bad_name_from, good_name, has_good_name, is_name_at}
+use Rattle.doc_server_names.specs.Names.{is_name}
 use Rattle.doc_server_lint.specs.declared.place.Place.TheVariants as place
 use Rattle.doc_server_lint.specs.declared.rule.Form.TheVariants as form
 use Rattle.doc_server_lint.specs.declared.rule.Rule.TheVariants as rule
 use Rattle.doc_server_lint.specs.declared.what.What.TheVariants.{Bad, NoToken, TokenOf}
 use Rattle.doc_server_lint.specs.Faults.{faults_of_closed, faults_of_folders, faults_of_keys, faults_of_page, faults_of_pages}
-use Rattle.doc_server_lint.specs.Faults.{faults_of_key_again, faults_of_reader, faults_of_row, finding_of, known_at, naming_fault, naming_key}
+use Rattle.doc_server_lint.specs.Faults.{faults_of_entry, faults_of_key_again, faults_of_name, faults_of_reader, faults_of_row, finding_of, known_at}
+use Rattle.doc_server_lint.specs.Faults.{naming_fault, naming_key}
 use Rattle.doc_server_lint.specs.Faults.{faults_of_readers, source_fault, with_reader}
 use Rattle.doc_server_lint.specs.Laws.{is_clear}
 use Rattle.doc_server_lint.specs.Rules.{folder_keys, names_of, page_keys, reader_keys}
@@ -272,7 +275,7 @@ named_first true true false d = refl
 named_first true false c d = refl
 named_first false b c d = refl
 
--- a reader's own faults
+-- the faults of a reader's entry, by itself
 pub reader_entry : (n : ℕ) (row : Data) → is_clear (faults_of_row n row) ≡ is_some (entry_of row)
 reader_entry n row =
     let token = get (codes "token") row in
@@ -290,13 +293,32 @@ reader_entry n row =
     ∙ (λ i. key i && (owner i && (groups i && true)))
     ∙ sym (entry_parts (key_in row) (owner_at (get (codes "owner") row)) (groups_at (get (codes "groups") row)))
 
-pub reader_clear : (known : KnownReaders) (n : ℕ) (row : Data)
-    → is_clear (faults_of_reader known n row) ≡ (is_some (entry_of row) && not (is_some (known_at known (key_in row))))
-reader_clear known n row =
+pub entry_clear : (known : KnownReaders) (n : ℕ) (row : Data)
+    → is_clear (faults_of_entry known n row) ≡ (is_some (entry_of row) && not (is_some (known_at known (key_in row))))
+entry_clear known n row =
     let own = reader_entry n row in
     let again = finding_clear (place.Reader n) (Some (naming_key (key_in row))) (option_map TokenOf (known_at known (key_in row)))
     ∙ fresh_token (known_at known (key_in row)) in
     clear_append (faults_of_row n row) (faults_of_key_again known n (key_in row)) ∙ (λ i. own i && again i)
+
+name_taken : (held : Option Data) → allows (key_fault (rule.Text form.Name) held) ≡ is_name_at held
+name_taken None = refl
+name_taken (Some value) = text_taken form.Name good_name (as_str value) refl (λ text. if_taken (is_name text) text)
+
+pub name_clear : (n : ℕ) (row : Data) → is_clear (faults_of_name n row) ≡ has_good_name row
+name_clear n row =
+    finding_clear (place.Reader n) (Some (codes "name")) (key_fault (rule.Text form.Name) (get (codes "name") row))
+    ∙ name_taken (get (codes "name") row)
+
+-- no name is bad where each is good
+pub names_taken : (n : ℕ) (rows : Items) → not (is_some (bad_name_from n rows)) ≡ each has_good_name rows
+names_taken n no_items = refl
+names_taken n (item row rest) = by (has_good_name row) (names_taken (n + 1) rest)
+  where
+    by : (b : Bool) → not (is_some (bad_name_from (n + 1) rest)) ≡ each has_good_name rest
+        → not (is_some (if b then bad_name_from (n + 1) rest else Some n)) ≡ (b && each has_good_name rest)
+    by true more = more
+    by false more = refl
 
 -- whether no row has a reader of one before it
 abbrev pub are_fresh : KnownReaders → ℕ → Items → Bool
@@ -311,12 +333,20 @@ apart true false false d = refl
 apart false b c d = refl
 
 pub readers_clear : (known : KnownReaders) (n : ℕ) (rows : Items)
-    → is_clear (faults_of_readers known n rows) ≡ (each (λ row. is_some (entry_of row)) rows && are_fresh known n rows)
+    → is_clear (faults_of_readers known n rows)
+    ≡ ((each (λ row. is_some (entry_of row)) rows && are_fresh known n rows) && each has_good_name rows)
 readers_clear known n no_items = refl
 readers_clear known n (item row rest) =
-    let first = reader_clear known n row in
+    let one = entry_clear known n row in
+    let name = name_clear n row in
     let more = readers_clear (with_reader known (key_in row) n) (n + 1) rest in
-    clear_append (faults_of_reader known n row) (faults_of_readers (with_reader known (key_in row) n) (n + 1) rest)
-    ∙ (λ i. first i && more i)
-    ∙ apart (is_some (entry_of row)) (not (is_some (known_at known (key_in row)))) (each (λ row. is_some (entry_of row)) rest)
-    (are_fresh (with_reader known (key_in row) n) (n + 1) rest)
+    let is_entry = is_some (entry_of row) in
+    let is_fresh = not (is_some (known_at known (key_in row))) in
+    let are_entries = each (λ row. is_some (entry_of row)) rest in
+    let are_more_fresh = are_fresh (with_reader known (key_in row) n) (n + 1) rest in
+    let behind = faults_of_readers (with_reader known (key_in row) n) (n + 1) rest in
+    clear_append (faults_of_reader known n row) behind
+    ∙ ap (λ b. b && is_clear behind) (clear_append (faults_of_entry known n row) (faults_of_name n row))
+    ∙ (λ i. (one i && name i) && more i)
+    ∙ apart (is_entry && is_fresh) (has_good_name row) (are_entries && are_more_fresh) (each has_good_name rest)
+    ∙ ap (λ b. b && (has_good_name row && each has_good_name rest)) (apart is_entry is_fresh are_entries are_more_fresh)

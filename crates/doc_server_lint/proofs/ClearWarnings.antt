@@ -16,7 +16,7 @@ use Rattle.doc_server_lint.specs.Faults.{Rows, finding_of, row_of, rows_at, with
 use Rattle.doc_server_lint.specs.Laws.{is_clear}
 use Rattle.doc_server_lint.specs.Rules.{known_reader_keys, names_of, page_keys, top_keys}
 use Rattle.doc_server_lint.specs.Unknown.{meant, unknown_in, unknown_in_table, unknown_key, unknown_keys}
-use Rattle.doc_server_lint.specs.Warnings.{groups_of, held_groups, name_warning, owners_warning, token_warning, unheld_group, unheld_groups, warnings_of}
+use Rattle.doc_server_lint.specs.Warnings.{groups_of, held_groups, owners_warning, token_warning, unheld_group, unheld_groups, warnings_of}
 use Rattle.doc_server_lint.specs.Warnings.{warnings_of_folders, warnings_of_page, warnings_of_pages, warnings_of_reader}
 use Rattle.doc_server_lint.specs.Warnings.{warnings_of_readers, warnings_of_rows}
 use Rattle.doc_server_lint.proofs.Clear.{clear_append}
@@ -53,15 +53,10 @@ row_quiet place known row = by (as_table row)
 
 reader_quiet : (n : ℕ) (row : Data) → is_clear (warnings_of_reader n row) ≡ true
 reader_quiet n row =
-    both_quiet
-    (unknown_in false (place.Reader n) (names_of known_reader_keys) row
-    ++ finding_of false (place.Reader n) (Some (codes "token")) (token_warning (key_in row)))
-    (finding_of false (place.Reader n) (Some (codes "name")) (name_warning (get (codes "name") row)))
-    (both_quiet (unknown_in false (place.Reader n) (names_of known_reader_keys) row)
+    both_quiet (unknown_in false (place.Reader n) (names_of known_reader_keys) row)
     (finding_of false (place.Reader n) (Some (codes "token")) (token_warning (key_in row)))
     (row_quiet (place.Reader n) (names_of known_reader_keys) row)
-    (finding_quiet (place.Reader n) (Some (codes "token")) (token_warning (key_in row))))
-    (finding_quiet (place.Reader n) (Some (codes "name")) (name_warning (get (codes "name") row)))
+    (finding_quiet (place.Reader n) (Some (codes "token")) (token_warning (key_in row)))
 
 readers_quiet : (n : ℕ) (rows : Items) → is_clear (warnings_of_readers n rows) ≡ true
 readers_quiet n no_items = refl

@@ -1,8 +1,9 @@
 -- The page or the folder for which a document is refused is the first of which a fault is told.
-use Rattle.std.proofs.Common.{◌≡◌, ◌+◌, ℕ, List, [], ◌∷◌, ◌++◌, Bool, true, false, is_some, is_ok, codes, refl, ap, ◌∙◌}
+use Rattle.std.proofs.Common.{◌≡◌, ◌+◌, ℕ, List, [], ◌∷◌, ◌++◌, Bool, true, false, is_some, is_ok, codes, refl, ap, sym, ◌∙◌}
 use Rattle.std.specs.Prelude.{Option, Some, None, Result, Ok, Err, if◌then◌else◌}
 use Rattle.std.specs.Option.{option_or}
 use Rattle.toml.specs.Data.{Data, Items, no_items, item, Members, as_table, get_member}
+use Rattle.doc_page_parts.proofs.Bools.{clash}
 use Rattle.doc_store_readers.specs.declared.readers.ReadersError.{ReadersError}
 use Rattle.doc_store_readers.specs.Readers.{ReaderTable, readers_of_document, tables_at}
 use Rattle.doc_server_config.specs.declared.bounds.Bounds.{Bounds}
@@ -13,15 +14,16 @@ use Rattle.doc_server_config.specs.declared.folder.Folder.{Folder}
 use Rattle.doc_server_config.specs.declared.folder.FolderFault.{FolderFault}
 use Rattle.doc_server_config.specs.declared.listening.Listening.{Listening}
 use Rattle.doc_server_config.specs.declared.listening.ListeningError.{ListeningError}
-use Rattle.doc_server_config.specs.declared.listening.ListeningError.TheVariants.{BadFolder, BadListen}
+use Rattle.doc_server_config.specs.declared.listening.ListeningError.TheVariants.{BadFolder, BadListen, BadName}
 use Rattle.doc_server_config.specs.declared.page_row.PageRow.{PageRow}
 use Rattle.doc_server_config.specs.Bounds.{bounds_at, bounds_in, bounds_of_table, bounds_with, connections_at, idle_seconds_at}
 use Rattle.doc_server_config.specs.Bounds.{media_bytes_at, request_seconds_at, stranger_seconds_at}
 use Rattle.doc_server_config.specs.Configurations.{config_of_document, with_pages, with_readers, with_settings}
 use Rattle.doc_server_config.specs.Folders.{folder_of, folders_from}
-use Rattle.doc_server_config.specs.Listenings.{listening_of_document, with_bounds, with_folders, with_tables}
+use Rattle.doc_server_config.specs.Listenings.{listening_of_document, unless_named, with_bounds, with_folders, with_tables}
 use Rattle.doc_server_config.specs.Keys.{has_only}
 use Rattle.doc_server_config.specs.PageRows.{page_of, pages_from}
+use Rattle.doc_server_config.specs.ReaderNames.{bad_name_in}
 use Rattle.doc_server_config.specs.Settings.{settings_in}
 use Rattle.doc_server_lint.specs.declared.finding.Finding.{Finding}
 use Rattle.doc_server_lint.specs.declared.place.Place.{Place}
@@ -34,11 +36,11 @@ use Rattle.doc_server_lint.specs.Laws.{first_refusal, is_of_folder, is_of_page}
 use Rattle.doc_server_lint.specs.Rules.{browse_keys, folder_keys, listen_keys, markdown_keys, top_keys}
 use Rattle.doc_server_lint.specs.Warnings.{warnings_of}
 use Rattle.doc_server_lint.proofs.ClearRows.{folder_clear, page_clear}
-use Rattle.doc_server_lint.proofs.FirstSteps.{closed_at, first_append, first_here, held_at, keys_at_place, no_pages, no_readers}
-use Rattle.doc_server_lint.proofs.FirstSteps.{none_elsewhere, none_of_clear, page_at}
+use Rattle.doc_server_lint.proofs.FirstSteps.{IsOff, closed_at, first_append, first_here, held_at, keys_at_place, no_pages, no_readers}
+use Rattle.doc_server_lint.proofs.FirstSteps.{none_of_clear, none_there, page_at}
 
 -- the first of those that pass a test of places
-abbrev pub first : (Place → Bool) → List Finding → Option Place
+abbrev first : (Place → Bool) → List Finding → Option Place
 first test found = first_refusal (λ finding. test finding.place) found
 
 -- ---- pages
@@ -121,84 +123,86 @@ bad_folder_told found n (item row rest) m fault is =
     by (Err bad) eq more is = here (ap is_ok eq) (bad_folder n m bad fault is)
     by (Ok folder) eq more is = behind (ap is_ok eq) (more folder is)
 
--- a table of bounds isn't refused for a folder
-bounds_parts : (a b c d e : Option ℕ) (n : ℕ) (fault : FolderFault) → bounds_with a b c d e ≡ Err (BadFolder n fault) → ⊥
-bounds_parts None b c d e n fault is = cc
-bounds_parts (Some a) None c d e n fault is = cc
-bounds_parts (Some a) (Some b) None d e n fault is = cc
-bounds_parts (Some a) (Some b) (Some c) None e n fault is = cc
-bounds_parts (Some a) (Some b) (Some c) (Some d) None n fault is = cc
-bounds_parts (Some a) (Some b) (Some c) (Some d) (Some e) n fault is = cc
+-- what a table of bounds is refused for is neither a folder nor a name
+abbrev pub is_of_bounds : ListeningError → Bool
+is_of_bounds (BadFolder n fault) = false
+is_of_bounds (BadName n) = false
+is_of_bounds other = true
 
-bounds_table : (only : Bool) (bounds : Result Bounds ListeningError) (n : ℕ) (fault : FolderFault)
-    → (bounds ≡ Err (BadFolder n fault) → ⊥) → (if only then bounds else Err BadListen) ≡ Err (BadFolder n fault) → ⊥
-bounds_table true bounds n fault never is = never is
-bounds_table false bounds n fault never is = cc
+abbrev are_bounds : Result Bounds ListeningError → Bool
+are_bounds (Ok bounds) = true
+are_bounds (Err e) = is_of_bounds e
 
--- what a table holds of the bounds
-abbrev connections : Members → Option ℕ
-connections table = connections_at (get_member (codes "connections") table)
+bounds_parts : (a b c d e : Option ℕ) → are_bounds (bounds_with a b c d e) ≡ true
+bounds_parts None b c d e = refl
+bounds_parts (Some a) None c d e = refl
+bounds_parts (Some a) (Some b) None d e = refl
+bounds_parts (Some a) (Some b) (Some c) None e = refl
+bounds_parts (Some a) (Some b) (Some c) (Some d) None = refl
+bounds_parts (Some a) (Some b) (Some c) (Some d) (Some e) = refl
 
-abbrev idle : Members → Option ℕ
-idle table = idle_seconds_at (get_member (codes "idle_seconds") table)
+bounds_table : (only : Bool) (bounds : Result Bounds ListeningError) → are_bounds bounds ≡ true
+    → are_bounds (if only then bounds else Err BadListen) ≡ true
+bounds_table true bounds are = are
+bounds_table false bounds are = refl
 
-abbrev media : Members → Option ℕ
-media table = media_bytes_at (get_member (codes "media_bytes") table)
-
-abbrev stranger : Members → Option ℕ
-stranger table = stranger_seconds_at (get_member (codes "stranger_seconds") table)
-
-abbrev request : Members → Option ℕ
-request table = request_seconds_at (get_member (codes "request_seconds") table)
-
-bounds_held : (held : Option Data) (n : ℕ) (fault : FolderFault) → bounds_at held ≡ Err (BadFolder n fault) → ⊥
-bounds_held None n fault is = cc
-bounds_held (Some value) n fault is = by (as_table value) is
+bounds_held : (held : Option Data) → are_bounds (bounds_at held) ≡ true
+bounds_held None = refl
+bounds_held (Some value) = by (as_table value)
   where
-    by : (table : Option Members) → bounds_of_table table ≡ Err (BadFolder n fault) → ⊥
-    by None is = cc
-    by (Some table) is =
+    by : (table : Option Members) → are_bounds (bounds_of_table table) ≡ true
+    by None = refl
+    by (Some table) =
+        let at : List ℕ → Option Data = λ key. get_member key table in
         bounds_table
         (has_only
         (codes "connections" ∷ codes "idle_seconds" ∷ codes "media_bytes" ∷ codes "stranger_seconds" ∷ codes "request_seconds" ∷ []) table)
-        (bounds_with (connections table) (idle table) (media table) (stranger table) (request table)) n fault
-        (bounds_parts (connections table) (idle table) (media table) (stranger table) (request table) n fault) is
+        (bounds_with (connections_at (at (codes "connections"))) (idle_seconds_at (at (codes "idle_seconds")))
+        (media_bytes_at (at (codes "media_bytes"))) (stranger_seconds_at (at (codes "stranger_seconds")))
+        (request_seconds_at (at (codes "request_seconds"))))
+        (bounds_parts (connections_at (at (codes "connections"))) (idle_seconds_at (at (codes "idle_seconds")))
+        (media_bytes_at (at (codes "media_bytes"))) (stranger_seconds_at (at (codes "stranger_seconds")))
+        (request_seconds_at (at (codes "request_seconds"))))
+
+pub bounds_refused : (document : Members) (e : ListeningError) → bounds_in document ≡ Err e → is_of_bounds e ≡ true
+bounds_refused document e is = sym (ap are_bounds is) ∙ bounds_held (get_member (codes "listen") document)
 
 -- ---- the document
 
 -- a document's own keys and its three tables have no rows
-module _ (test : Place → Bool) (document : Members) (none : test place.Document ≡ false) (none_markdown : test place.Markdown ≡ false)
-    (none_listen : test place.Listen ≡ false) (none_browse : test place.Browse ≡ false) where
+module _ (test : Finding → Bool) (document : Members) (off : IsOff test place.Document) (off_markdown : IsOff test place.Markdown)
+    (off_listen : IsOff test place.Listen) (off_browse : IsOff test place.Browse) where
   abbrev at : List ℕ → Option Data
   at key = get_member key document
 
-  tables_none : first test (faults_of_tables document) ≡ None
+  tables_none : first_refusal test (faults_of_tables document) ≡ None
   tables_none =
-      let markdown = none_elsewhere test place.Markdown (faults_of_held place.Markdown markdown_keys (at (codes "markdown"))) none_markdown
+      let markdown = none_there test place.Markdown (faults_of_held place.Markdown markdown_keys (at (codes "markdown"))) off_markdown
       (held_at place.Markdown markdown_keys (at (codes "markdown"))) in
-      let listen = none_elsewhere test place.Listen (faults_of_held place.Listen listen_keys (at (codes "listen"))) none_listen
+      let listen = none_there test place.Listen (faults_of_held place.Listen listen_keys (at (codes "listen"))) off_listen
       (held_at place.Listen listen_keys (at (codes "listen"))) in
-      let browse = none_elsewhere test place.Browse (faults_of_held place.Browse browse_keys (at (codes "browse"))) none_browse
+      let browse = none_there test place.Browse (faults_of_held place.Browse browse_keys (at (codes "browse"))) off_browse
       (held_at place.Browse browse_keys (at (codes "browse"))) in
-      first_append (λ finding. test finding.place)
+      first_append test
       (faults_of_held place.Markdown markdown_keys (at (codes "markdown")) ++ faults_of_held place.Listen listen_keys (at (codes "listen")))
       (faults_of_held place.Browse browse_keys (at (codes "browse")))
-      ∙ ap (λ one. option_or one (first test (faults_of_held place.Browse browse_keys (at (codes "browse")))))
-      (first_append (λ finding. test finding.place) (faults_of_held place.Markdown markdown_keys (at (codes "markdown")))
+      ∙ ap (λ one. option_or one (first_refusal test (faults_of_held place.Browse browse_keys (at (codes "browse")))))
+      (first_append test (faults_of_held place.Markdown markdown_keys (at (codes "markdown")))
       (faults_of_held place.Listen listen_keys (at (codes "listen"))))
       ∙ (λ i. option_or (option_or (markdown i) (listen i)) (browse i))
 
   -- so what the rows tell first is what the document tells first
-  pub first_of_rows : (row : Place) → first test (faults_of_rows document) ≡ Some row → first test (findings_of document) ≡ Some row
+  pub first_of_rows : (row : Place) → first_refusal test (faults_of_rows document) ≡ Some row
+      → first_refusal test (findings_of document) ≡ Some row
   first_of_rows row is =
-      let top = none_elsewhere test place.Document (faults_of_keys place.Document top_keys at) none
+      let top = none_there test place.Document (faults_of_keys place.Document top_keys at) off
       (keys_at_place place.Document top_keys at) in
-      first_append (λ finding. test finding.place) (faults_of document) (warnings_of document)
-      ∙ ap (λ one. option_or one (first test (warnings_of document)))
-      (first_append (λ finding. test finding.place) (faults_of_keys place.Document top_keys at ++ faults_of_tables document)
+      first_append test (faults_of document) (warnings_of document)
+      ∙ ap (λ one. option_or one (first_refusal test (warnings_of document)))
+      (first_append test (faults_of_keys place.Document top_keys at ++ faults_of_tables document)
       (faults_of_rows document)
-      ∙ ap (λ one. option_or one (first test (faults_of_rows document)))
-      (first_append (λ finding. test finding.place) (faults_of_keys place.Document top_keys at) (faults_of_tables document))
+      ∙ ap (λ one. option_or one (first_refusal test (faults_of_rows document)))
+      (first_append test (faults_of_keys place.Document top_keys at) (faults_of_tables document))
       ∙ (λ i. option_or (option_or (top i) (tables_none i)) (is i)))
 
 same_page : (e : ConfigError) (n : ℕ) → ◌≡◌ {A = Result SiteConfig ConfigError} (Err e) (Err (BadPage n))
@@ -208,7 +212,8 @@ same_page e n is = cc
 pub bad_page_is_told : (document : Members) (n : ℕ) → config_of_document document ≡ Err (BadPage n)
     → first is_of_page (findings_of document) ≡ Some (place.Page n)
 bad_page_is_told document n is =
-    first_of_rows is_of_page document refl refl refl refl (place.Page n)
+    first_of_rows (λ finding. is_of_page finding.place) document (λ one. ap is_of_page) (λ one. ap is_of_page) (λ one. ap is_of_page)
+    (λ one. ap is_of_page) (place.Page n)
     (first_append (λ finding. is_of_page finding.place)
     (faults_of_readers nobody_known 1 (rows_at (codes "reader") document) ++ faults_of_pages 1 (rows_at (codes "page") document))
     (faults_of_folders 1 (rows_at (codes "folder") document))
@@ -243,7 +248,8 @@ same_folder e n fault is = cc
 pub bad_folder_is_told : (document : Members) (n : ℕ) (fault : FolderFault) → listening_of_document document ≡ Err (BadFolder n fault)
     → first is_of_folder (findings_of document) ≡ Some (place.Folder n)
 bad_folder_is_told document n fault is =
-    first_of_rows is_of_folder document refl refl refl refl (place.Folder n)
+    first_of_rows (λ finding. is_of_folder finding.place) document (λ one. ap is_of_folder) (λ one. ap is_of_folder)
+    (λ one. ap is_of_folder) (λ one. ap is_of_folder) (place.Folder n)
     (first_append (λ finding. is_of_folder finding.place)
     (faults_of_readers nobody_known 1 (rows_at (codes "reader") document) ++ faults_of_pages 1 (rows_at (codes "page") document))
     (faults_of_folders 1 (rows_at (codes "folder") document))
@@ -251,7 +257,8 @@ bad_folder_is_told document n fault is =
     (first_append (λ finding. is_of_folder finding.place) (faults_of_readers nobody_known 1 (rows_at (codes "reader") document))
     (faults_of_pages 1 (rows_at (codes "page") document)))
     ∙ (λ i. option_or (option_or (no_readers is_of_folder (λ m. refl) nobody_known 1 (rows_at (codes "reader") document) i)
-    (no_pages is_of_folder (λ m. refl) 1 (rows_at (codes "page") document) i)) (by_bounds (bounds_in document) refl is i)))
+    (no_pages is_of_folder (λ m. refl) 1 (rows_at (codes "page") document) i))
+    (by_bounds (bounds_in document) refl (by_names (with_bounds document (bounds_in document)) (bad_name_in document) is) i)))
   where
     by_folders : (bounds : _) (rows : Items) (found : Result (List Folder) ListeningError)
         → folders_from [] 1 rows ≡ found → with_folders bounds found ≡ Err (BadFolder n fault)
@@ -272,4 +279,10 @@ bad_folder_is_told document n fault is =
         → with_bounds document bounds ≡ Err (BadFolder n fault)
         → first is_of_folder (faults_of_folders 1 (rows_at (codes "folder") document)) ≡ Some (place.Folder n)
     by_bounds (Ok bounds) eq is = by_tables bounds (tables_at (get_member (codes "folder") document)) is
-    by_bounds (Err e) eq is = absurd (bounds_held (get_member (codes "listen") document) n fault (eq ∙ refused e is))
+    by_bounds (Err e) eq is = absurd (clash false (bounds_refused document (BadFolder n fault) (eq ∙ refused e is)) refl)
+
+    by_names : (listening : Result Listening ListeningError) (bad : Option ℕ) → unless_named listening bad ≡ Err (BadFolder n fault)
+        → listening ≡ Err (BadFolder n fault)
+    by_names (Err e) bad is = is
+    by_names (Ok listening) None is = is
+    by_names (Ok listening) (Some row) is = cc

@@ -1,13 +1,15 @@
 -- The reader for which a document is refused is the first of which a fault is told.
-use Rattle.std.proofs.Common.{◌≡◌, ◌+◌, ℕ, List, [], ◌∷◌, ◌++◌, Bool, true, false, not, ◌&&◌, is_some, is_ok, codes, refl, ap, sym, ◌∙◌}
+use Rattle.std.proofs.Common.{◌≡◌, ◌+◌, ℕ, List, [], ◌∷◌, ◌++◌, Bool, true, false, not, ◌&&◌, bytes_eq, is_some, is_ok, codes, refl, ap, sym, ◌∙◌}
 use Rattle.std.proofs.Common.{subst}
-use Rattle.std.specs.Prelude.{Option, Some, None, Result, Ok, Err, if◌then◌else◌}
+use Rattle.std.specs.Prelude.{Option, Some, None, option_map, Result, Ok, Err, if◌then◌else◌}
 use Rattle.std.specs.Option.{option_or}
 use Rattle.toml.specs.Data.{Data, Items, no_items, item, Members, get, get_member}
 use Rattle.doc_page_parts.proofs.Bools.{and_first, and_second, clash}
 use Rattle.doc_store_readers.specs.declared.entries.Entry.{Entry}
 use Rattle.doc_store_readers.specs.declared.readers.ReadersError.{ReadersError}
 use Rattle.doc_store_readers.specs.declared.readers.ReadersError.TheVariants.{BadRow, Twice}
+use Rattle.doc_store_readers.specs.declared.keys.Key.{Key}
+use Rattle.doc_store_readers.specs.declared.keys.Key.TheVariants.{Token, Digest}
 use Rattle.doc_store_readers.specs.Keys.{key_in}
 use Rattle.doc_store_readers.specs.Readers.{Listed, ReaderTable, comes_again, entries_from, entries_of, entry_of, groups_at, listed_with}
 use Rattle.doc_store_readers.specs.Readers.{none_listed, owner_at, reader_tables}
@@ -20,38 +22,103 @@ use Rattle.doc_server_config.specs.Configurations.{config_of_document, with_page
 use Rattle.doc_server_config.specs.PageRows.{page_of, pages_from}
 use Rattle.doc_server_config.specs.Settings.{settings_in}
 use Rattle.doc_server_lint.specs.declared.finding.Finding.{Finding}
+use Rattle.doc_server_lint.specs.declared.place.Place.{Place}
 use Rattle.doc_server_lint.specs.declared.place.Place.TheVariants as place
 use Rattle.doc_server_lint.specs.declared.known_readers.KnownReaders.{KnownReaders}
-use Rattle.doc_server_lint.specs.Faults.{faults_of_folders, faults_of_pages, faults_of_reader, faults_of_readers, known_at, known_with}
-use Rattle.doc_server_lint.specs.Faults.{nobody_known, rows_at, rows_of, with_reader}
+use Rattle.doc_server_lint.specs.declared.what.What.{What}
+use Rattle.doc_server_lint.specs.declared.what.What.TheVariants.{TokenOf}
+use Rattle.doc_server_lint.specs.Faults.{faults_of_entry, faults_of_folders, faults_of_key_again, faults_of_keys, faults_of_name}
+use Rattle.doc_server_lint.specs.Faults.{faults_of_pages, faults_of_reader, faults_of_readers, faults_of_row, finding_of, known_at, known_with}
+use Rattle.doc_server_lint.specs.Faults.{naming_fault, naming_key, nobody_known, rows_at, rows_of, with_reader}
 use Rattle.doc_server_lint.specs.Findings.{findings_of}
-use Rattle.doc_server_lint.specs.Laws.{is_of_reader}
+use Rattle.doc_server_lint.specs.Laws.{first_refusal, is_of_name, is_of_reader}
+use Rattle.doc_server_lint.specs.Rules.{name_key, reader_keys}
+use Rattle.doc_server_lint.specs.Values.{key_fault}
 use Rattle.doc_server_lint.proofs.ClearReaders.{AreKnown, comes_known, entries_in, entries_are, entries_taken, is_reader, kept, key_is}
 use Rattle.doc_server_lint.proofs.ClearReaders.{none_known, one_more}
-use Rattle.doc_server_lint.proofs.ClearRows.{each, reader_clear}
-use Rattle.doc_server_lint.proofs.FirstLaw.{first, first_of_rows}
-use Rattle.doc_server_lint.proofs.FirstSteps.{first_append, first_here, none_of_clear, reader_at}
+use Rattle.doc_server_lint.proofs.ClearRows.{each, entry_clear}
+use Rattle.doc_server_lint.proofs.FirstLaw.{first_of_rows}
+use Rattle.doc_server_lint.proofs.FirstSteps.{Each, IsAt, IsOff, each_append, first_append, first_there, keys_each, none_of_clear}
+use Rattle.doc_server_lint.proofs.FirstSteps.{none_of_each}
+
+-- whether a finding is a reader's, and not of its name
+abbrev pub unnamed : Finding → Bool
+unnamed finding = is_of_reader finding.place && not (is_of_name finding.key)
+
+-- the first of those
+abbrev first : List Finding → Option Place
+first found = first_refusal unnamed found
+
+-- ---- all but its name
+
+finding_unnamed : (n : ℕ) (key : List ℕ) (what : Option What) → bytes_eq key (codes "name") ≡ false
+    → Each (IsAt unnamed (place.Reader n)) (finding_of true (place.Reader n) (Some key) what)
+finding_unnamed n key None is = tt
+finding_unnamed n key (Some what) is = ((ap not is, refl), tt)
+
+row_unnamed : (n : ℕ) (row : Data) → Each (IsAt unnamed (place.Reader n)) (faults_of_row n row)
+row_unnamed n row =
+    each_append (IsAt unnamed (place.Reader n))
+    (finding_of true (place.Reader n) (Some (codes "token")) (naming_fault (get (codes "token") row) (get (codes "token_sha256") row)))
+    (faults_of_keys (place.Reader n) reader_keys (λ key. get key row))
+    (finding_unnamed n (codes "token") (naming_fault (get (codes "token") row) (get (codes "token_sha256") row)) refl)
+    (keys_each (IsAt unnamed (place.Reader n)) (place.Reader n) reader_keys (λ key. get key row) (
+      finding_unnamed n (codes "token") _ refl,
+      (
+        finding_unnamed n (codes "token_sha256") _ refl,
+        (
+          finding_unnamed n (codes "owner") _ refl,
+          (finding_unnamed n (codes "groups") _ refl, tt),
+        ),
+      ),
+    ))
+
+naming_unnamed : (key : Option Key) → bytes_eq (naming_key key) (codes "name") ≡ false
+naming_unnamed None = refl
+naming_unnamed (Some (Token token)) = refl
+naming_unnamed (Some (Digest digest)) = refl
+
+pub entry_unnamed : (known : KnownReaders) (n : ℕ) (row : Data) → Each (IsAt unnamed (place.Reader n)) (faults_of_entry known n row)
+entry_unnamed known n row =
+    each_append (IsAt unnamed (place.Reader n)) (faults_of_row n row) (faults_of_key_again known n (key_in row)) (row_unnamed n row)
+    (finding_unnamed n (naming_key (key_in row)) (option_map TokenOf (known_at known (key_in row))) (naming_unnamed (key_in row)))
+
+name_off : (n : ℕ) (what : Option What)
+    → Each (λ finding. unnamed finding ≡ false) (finding_of true (place.Reader n) (Some (codes "name")) what)
+name_off n None = tt
+name_off n (Some what) = (refl, tt)
+
+-- at another place than a reader's there is none
+off : (place : Place) → is_of_reader place ≡ false → IsOff unnamed place
+off place is = λ one at. ap (λ place. is_of_reader place && not (is_of_name one.key)) at
+    ∙ ap (λ b. b && not (is_of_name one.key)) is
 
 -- what is told of the readers that are left, where nothing or something is told of this one
 module _ (known : KnownReaders) (n : ℕ) (row : Data) (rest : Items) (m : ℕ) where
   abbrev more : List Finding
   more = faults_of_readers (with_reader known (key_in row) n) (n + 1) rest
 
+  reader_first : first (faults_of_reader known n row) ≡ option_or (first (faults_of_entry known n row)) None
+  reader_first =
+      first_append unnamed (faults_of_entry known n row) (faults_of_name n row)
+      ∙ ap (option_or (first (faults_of_entry known n row)))
+      (none_of_each unnamed (faults_of_name n row) (name_off n (key_fault name_key.1 (get name_key.0 row))))
+
   here : (is_some (entry_of row) && not (is_some (known_at known (key_in row)))) ≡ false → n ≡ m
-      → first is_of_reader (faults_of_readers known n (item row rest)) ≡ Some (place.Reader m)
+      → first (faults_of_readers known n (item row rest)) ≡ Some (place.Reader m)
   here bad same =
-      first_append (λ finding. is_of_reader finding.place) (faults_of_reader known n row) more
-      ∙ ap (λ one. option_or one (first is_of_reader more))
-      (first_here is_of_reader (place.Reader n) (faults_of_reader known n row) refl (reader_at known n row)
-      (reader_clear known n row ∙ bad))
+      first_append unnamed (faults_of_reader known n row) more
+      ∙ ap (λ one. option_or one (first more)) (reader_first
+      ∙ ap (λ one. option_or one None) (first_there unnamed (place.Reader n) (faults_of_entry known n row) (entry_unnamed known n row)
+      (entry_clear known n row ∙ bad)))
       ∙ ap (λ k. Some (place.Reader k)) same
 
-  behind : (is_some (entry_of row) && not (is_some (known_at known (key_in row)))) ≡ true → first is_of_reader more ≡ Some (place.Reader m)
-      → first is_of_reader (faults_of_readers known n (item row rest)) ≡ Some (place.Reader m)
+  behind : (is_some (entry_of row) && not (is_some (known_at known (key_in row)))) ≡ true → first more ≡ Some (place.Reader m)
+      → first (faults_of_readers known n (item row rest)) ≡ Some (place.Reader m)
   behind good found =
-      first_append (λ finding. is_of_reader finding.place) (faults_of_reader known n row) more
-      ∙ ap (λ one. option_or one (first is_of_reader more))
-      (none_of_clear (λ finding. is_of_reader finding.place) (faults_of_reader known n row) (reader_clear known n row ∙ good))
+      first_append unnamed (faults_of_reader known n row) more
+      ∙ ap (λ one. option_or one (first more)) (reader_first
+      ∙ ap (λ one. option_or one None) (none_of_clear unnamed (faults_of_entry known n row) (entry_clear known n row ∙ good)))
       ∙ found
 
 -- whether a row is taken beside the readers before it, by its entry
@@ -72,11 +139,11 @@ abbrev TwiceIsToldBehind : Listed → ℕ → KnownReaders → Items → ℕ →
 TwiceIsToldBehind before n known rest m =
     (entry : Entry) → AreKnown (listed_with before entry.key entry.reader) (known_with known entry.key n)
     → readers_from (listed_with before entry.key entry.reader) (n + 1) (entries_in rest) ≡ Err (Twice m)
-    → first is_of_reader (faults_of_readers (known_with known entry.key n) (n + 1) rest) ≡ Some (place.Reader m)
+    → first (faults_of_readers (known_with known entry.key n) (n + 1) rest) ≡ Some (place.Reader m)
 
 twice_told : (before : Listed) (n : ℕ) (known : KnownReaders) (rows : Items) (m : ℕ) → AreKnown before known
     → each is_reader rows ≡ true → readers_from before n (entries_in rows) ≡ Err (Twice m)
-    → first is_of_reader (faults_of_readers known n rows) ≡ Some (place.Reader m)
+    → first (faults_of_readers known n rows) ≡ Some (place.Reader m)
 twice_told before n known no_items m are all is = cc
 twice_told before n known (item row rest) m are all is =
     by (λ entry are is. twice_told (listed_with before entry.key entry.reader) (n + 1) (known_with known entry.key n) rest m are
@@ -88,18 +155,18 @@ twice_told before n known (item row rest) m are all is =
     by_key : TwiceIsToldBehind before n known rest m → (entry : Entry) (b : Bool) → entry_of row ≡ Some entry
         → comes_again before entry.key ≡ b
         → (if b then Err (Twice n) else readers_from (listed_with before entry.key entry.reader) (n + 1) (entries_in rest)) ≡ Err (Twice m)
-        → first is_of_reader (faults_of_readers known n (item row rest)) ≡ Some (place.Reader m)
+        → first (faults_of_readers known n (item row rest)) ≡ Some (place.Reader m)
     by_key told entry true eq found is =
         here known n row rest m (fresh_row before known row entry true are eq found) (same_row n m is)
     by_key told entry false eq found is =
         behind known n row rest m (fresh_row before known row entry false are eq found)
-        (subst (λ key. first is_of_reader (faults_of_readers (with_reader known key n) (n + 1) rest) ≡ Some (place.Reader m))
+        (subst (λ key. first (faults_of_readers (with_reader known key n) (n + 1) rest) ≡ Some (place.Reader m))
         (sym (key_of_row entry eq))
         (told entry (one_more before known entry.key entry.reader n are) is))
 
     by : TwiceIsToldBehind before n known rest m → (entry : Option Entry) → entry_of row ≡ entry
         → readers_from before n (kept entry (entries_in rest)) ≡ Err (Twice m)
-        → first is_of_reader (faults_of_readers known n (item row rest)) ≡ Some (place.Reader m)
+        → first (faults_of_readers known n (item row rest)) ≡ Some (place.Reader m)
     by told None eq is = absurd (clash (is_some (entry_of row)) (and_first _ _ all) (ap is_some eq))
     by told (Some entry) eq is = by_key told entry (comes_again before entry.key) eq refl is
 
@@ -120,7 +187,7 @@ never found n (item row rest) m is = by (λ entry. never (found ++ entry ∷ [])
 
 -- what readers are refused for, by their rows
 rows_twice : (rows : Items) (m : ℕ) → readers_of_entries (entries_from [] 1 rows) ≡ Err (Twice m)
-    → first is_of_reader (faults_of_readers nobody_known 1 rows) ≡ Some (place.Reader m)
+    → first (faults_of_readers nobody_known 1 rows) ≡ Some (place.Reader m)
 rows_twice rows m is = by (each is_reader rows) refl
   where
     refused : (entries : Result (List Entry) ReadersError) → is_ok entries ≡ false → readers_of_entries entries ≡ Err (Twice m)
@@ -128,7 +195,7 @@ rows_twice rows m is = by (each is_reader rows) refl
     refused (Ok entries) bad is = cc
     refused (Err e) bad is = cc
 
-    by : (b : Bool) → each is_reader rows ≡ b → first is_of_reader (faults_of_readers nobody_known 1 rows) ≡ Some (place.Reader m)
+    by : (b : Bool) → each is_reader rows ≡ b → first (faults_of_readers nobody_known 1 rows) ≡ Some (place.Reader m)
     by true all =
         twice_told none_listed 1 nobody_known rows m none_known all
         (sym (ap readers_of_entries (entries_are [] 1 rows all)) ∙ is)
@@ -169,19 +236,20 @@ of_table (Ok readers) e is = cc
 of_table (Err other) e is = cc
 
 pub twice_is_told : (document : Members) (n : ℕ) → config_of_document document ≡ Err (BadReaders (Twice n))
-    → first is_of_reader (findings_of document) ≡ Some (place.Reader n)
+    → first (findings_of document) ≡ Some (place.Reader n)
 twice_is_told document n is =
-    first_of_rows is_of_reader document refl refl refl refl (place.Reader n)
-    (first_append (λ finding. is_of_reader finding.place)
+    first_of_rows unnamed document (off place.Document refl) (off place.Markdown refl) (off place.Listen refl) (off place.Browse refl)
+    (place.Reader n)
+    (first_append unnamed
     (faults_of_readers nobody_known 1 (rows_at (codes "reader") document) ++ faults_of_pages 1 (rows_at (codes "page") document))
     (faults_of_folders 1 (rows_at (codes "folder") document))
-    ∙ ap (λ one. option_or one (first is_of_reader (faults_of_folders 1 (rows_at (codes "folder") document))))
-    (first_append (λ finding. is_of_reader finding.place) (faults_of_readers nobody_known 1 (rows_at (codes "reader") document))
+    ∙ ap (λ one. option_or one (first (faults_of_folders 1 (rows_at (codes "folder") document))))
+    (first_append unnamed (faults_of_readers nobody_known 1 (rows_at (codes "reader") document))
     (faults_of_pages 1 (rows_at (codes "page") document))
-    ∙ ap (λ one. option_or one (first is_of_reader (faults_of_pages 1 (rows_at (codes "page") document))))
+    ∙ ap (λ one. option_or one (first (faults_of_pages 1 (rows_at (codes "page") document))))
     (by_tables (tables_at (get_member (codes "reader") document)) (of_readers (readers_of_document document) document (Twice n) is))))
   where
     by_tables : (tables : Option Items) → table_of (readers_of_entries (entries_of (reader_tables tables))) ≡ Err (Twice n)
-        → first is_of_reader (faults_of_readers nobody_known 1 (rows_of tables)) ≡ Some (place.Reader n)
+        → first (faults_of_readers nobody_known 1 (rows_of tables)) ≡ Some (place.Reader n)
     by_tables None is = cc
     by_tables (Some rows) is = rows_twice rows n (of_table (readers_of_entries (entries_from [] 1 rows)) (Twice n) is)

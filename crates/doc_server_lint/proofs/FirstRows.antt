@@ -1,9 +1,9 @@
--- The reader whose row is bad is the first of which a fault is told, but that an earlier reader has a token.
-use Rattle.std.proofs.Common.{◌≡◌, ◌+◌, ℕ, List, [], ◌∷◌, ◌++◌, Bool, true, false, not, ◌&&◌, is_some, cond, codes, refl, ap, ◌∙◌}
+-- The reader whose row is bad is the first of which a fault is told, but of its name and that an earlier reader has a token.
+use Rattle.std.proofs.Common.{◌≡◌, ◌+◌, ℕ, List, [], ◌∷◌, ◌++◌, Bool, true, false, not, ◌&&◌, bytes_eq, is_some, codes, refl, ap, ◌∙◌}
 use Rattle.std.specs.Prelude.{Option, Some, None, Result, Ok, Err, option_map, if◌then◌else◌}
-use Rattle.std.specs.List.{find}
 use Rattle.std.specs.Option.{option_or}
 use Rattle.toml.specs.Data.{Data, Items, no_items, item, Members, as_str, get, get_member}
+use Rattle.doc_page_parts.proofs.Bools.{and_false}
 use Rattle.doc_store_readers.specs.declared.entries.Entry.{Entry}
 use Rattle.doc_store_readers.specs.declared.groups.GroupsError.{GroupsError}
 use Rattle.doc_store_readers.specs.declared.groups.GroupsError.TheVariants as refusals
@@ -25,23 +25,23 @@ use Rattle.doc_server_lint.specs.declared.rule.Form.TheVariants as form
 use Rattle.doc_server_lint.specs.declared.rule.Rule.TheVariants as rule
 use Rattle.doc_server_lint.specs.declared.what.What.{What}
 use Rattle.doc_server_lint.specs.declared.what.What.TheVariants.{TokenOf}
-use Rattle.doc_server_lint.specs.Faults.{faults_of, faults_of_folders, faults_of_held, faults_of_key_again, faults_of_keys, faults_of_pages}
-use Rattle.doc_server_lint.specs.Faults.{faults_of_reader, faults_of_row, known_at, naming_fault, naming_key, nobody_known}
-use Rattle.doc_server_lint.specs.Faults.{faults_of_readers, faults_of_rows, faults_of_tables, finding_of, rows_at, rows_of}
-use Rattle.doc_server_lint.specs.Faults.{with_reader}
+use Rattle.doc_server_lint.specs.Faults.{faults_of_entry, faults_of_folders, faults_of_key_again, faults_of_keys, faults_of_name}
+use Rattle.doc_server_lint.specs.Faults.{faults_of_pages, faults_of_reader, faults_of_readers, faults_of_row, finding_of, known_at}
+use Rattle.doc_server_lint.specs.Faults.{naming_fault, naming_key, nobody_known, rows_at, rows_of, with_reader}
 use Rattle.doc_server_lint.specs.Findings.{findings_of}
-use Rattle.doc_server_lint.specs.Laws.{first_refusal, is_again, is_clear, is_of_reader, is_refusal}
-use Rattle.doc_server_lint.specs.Rules.{browse_keys, listen_keys, markdown_keys, top_keys}
+use Rattle.doc_server_lint.specs.Laws.{first_refusal, is_again, is_of_name, is_of_reader}
+use Rattle.doc_server_lint.specs.Rules.{name_key, reader_keys}
 use Rattle.doc_server_lint.specs.Values.{form_told, group_told, groups_fault, is_form, key_fault, refused_groups, strings_of, text_fault}
 use Rattle.doc_server_lint.specs.Values.{told}
-use Rattle.doc_server_lint.specs.Warnings.{warnings_of}
 use Rattle.doc_server_lint.proofs.ClearRows.{reader_entry}
+use Rattle.doc_server_lint.proofs.FirstLaw.{first_of_rows}
 use Rattle.doc_server_lint.proofs.FirstReaders.{of_readers, of_table}
-use Rattle.doc_server_lint.proofs.FirstSteps.{AreAt, Each, each_append, first_append, held_at, keys_at_place, none_of_clear}
+use Rattle.doc_server_lint.proofs.FirstSteps.{Each, IsAt, IsOff, each_append, first_append, first_there, keys_each, none_of_clear}
+use Rattle.doc_server_lint.proofs.FirstSteps.{none_of_each}
 
 -- whether a finding is a reader's own
 abbrev own : Finding → Bool
-own finding = is_of_reader finding.place && not (is_again finding.what)
+own finding = is_of_reader finding.place && (not (is_of_name finding.key) && not (is_again finding.what))
 
 -- ---- what isn't told of a key
 
@@ -96,48 +96,38 @@ held_apart (Some value) = groups_apart (strings_of value)
 
 -- ---- the first of a reader's own
 
-abbrev IsOwnAt : ℕ → Finding → Type 0
-IsOwnAt n finding = (own finding ≡ true) × (finding.place ≡ place.Reader n)
+finding_own : (n : ℕ) (key : List ℕ) (what : Option What) → bytes_eq key (codes "name") ≡ false → tells_again what ≡ false
+    → Each (IsAt own (place.Reader n)) (finding_of true (place.Reader n) (Some key) what)
+finding_own n key None other is = tt
+finding_own n key (Some what) other is = (((λ i. not (other i) && not (is i)), refl), tt)
 
-finding_own : (n : ℕ) (key : Option (List ℕ)) (what : Option What) → tells_again what ≡ false
-    → Each (IsOwnAt n) (finding_of true (place.Reader n) key what)
-finding_own n key None is = tt
-finding_own n key (Some what) is = ((ap not is, refl), tt)
-
-row_own : (n : ℕ) (row : Data) → Each (IsOwnAt n) (faults_of_row n row)
+row_own : (n : ℕ) (row : Data) → Each (IsAt own (place.Reader n)) (faults_of_row n row)
 row_own n row =
-    each_append (IsOwnAt n) (finding_of true (place.Reader n) (Some (codes "token")) (naming_fault (get (codes "token") row) (get
-    (codes "token_sha256") row))) _
-    (finding_own n (Some (codes "token")) _ (naming_apart (get (codes "token") row) (get (codes "token_sha256") row)))
-    (each_append (IsOwnAt n) (finding_of true (place.Reader n) (Some (codes "token")) (key_fault (rule.Text form.Token) (get
-    (codes "token") row))) _
-    (finding_own n (Some (codes "token")) _ (token_apart (get (codes "token") row)))
-    (each_append (IsOwnAt n) (finding_of true (place.Reader n) (Some (codes "token_sha256")) (key_fault (rule.Text form.Digest) (get
-    (codes "token_sha256") row))) _
-    (finding_own n (Some (codes "token_sha256")) _ (digest_apart (get (codes "token_sha256") row)))
-    (each_append (IsOwnAt n) (finding_of true (place.Reader n) (Some (codes "owner")) (key_fault rule.Boolean (get (codes "owner") row))) _
-    (finding_own n (Some (codes "owner")) _ (owner_apart (get (codes "owner") row)))
-    (each_append (IsOwnAt n) (finding_of true (place.Reader n) (Some (codes "groups")) (key_fault rule.Groups (get
-    (codes "groups") row))) []
-    (finding_own n (Some (codes "groups")) _ (held_apart (get (codes "groups") row))) tt))))
-
-own_here : (n : ℕ) (found : List Finding) → Each (IsOwnAt n) found → is_clear found ≡ false
-    → first_refusal own found ≡ Some (place.Reader n)
-own_here n [] each bad = cc
-own_here n (finding ∷ found) each bad = by (is_refusal finding) (own finding) (own_here n found each.1) each.0.0 bad
-  where
-    by : (b t : Bool) → (is_clear found ≡ false → first_refusal own found ≡ Some (place.Reader n)) → t ≡ true
-        → (not b && is_clear found) ≡ false
-        → option_map (λ one. one.place) (cond (b && t) (Some finding) (find (λ one. is_refusal one && own one) found))
-        ≡ Some (place.Reader n)
-    by b false rest never bad = cc
-    by true true rest holds bad = ap Some each.0.1
-    by false true rest holds bad = rest bad
+    each_append (IsAt own (place.Reader n)) (finding_of true (place.Reader n) (Some (codes "token"))
+    (naming_fault (get (codes "token") row) (get (codes "token_sha256") row)))
+    (faults_of_keys (place.Reader n) reader_keys (λ key. get key row))
+    (finding_own n (codes "token") _ refl (naming_apart (get (codes "token") row) (get (codes "token_sha256") row)))
+    (keys_each (IsAt own (place.Reader n)) (place.Reader n) reader_keys (λ key. get key row) (
+      finding_own n (codes "token") _ refl (token_apart (get (codes "token") row)),
+      (
+        finding_own n (codes "token_sha256") _ refl (digest_apart (get (codes "token_sha256") row)),
+        (
+          finding_own n (codes "owner") _ refl (owner_apart (get (codes "owner") row)),
+          (finding_own n (codes "groups") _ refl (held_apart (get (codes "groups") row)), tt),
+        ),
+      ),
+    ))
 
 again_apart : (n : ℕ) (key : List ℕ) (earlier : Option ℕ)
     → first_refusal own (finding_of true (place.Reader n) (Some key) (option_map TokenOf earlier)) ≡ None
 again_apart n key None = refl
-again_apart n key (Some m) = refl
+again_apart n key (Some m) = none_of_each own (finding_of true (place.Reader n) (Some key) (Some (TokenOf m)))
+    (and_false (not (bytes_eq key (codes "name"))), tt)
+
+name_off : (n : ℕ) (what : Option What)
+    → Each (λ finding. own finding ≡ false) (finding_of true (place.Reader n) (Some (codes "name")) what)
+name_off n None = tt
+name_off n (Some what) = (refl, tt)
 
 module _ (known : KnownReaders) (n : ℕ) (row : Data) (rest : Items) where
   abbrev alone : List Finding
@@ -146,22 +136,27 @@ module _ (known : KnownReaders) (n : ℕ) (row : Data) (rest : Items) where
   abbrev more : List Finding
   more = faults_of_readers (with_reader known (key_in row) n) (n + 1) rest
 
-  reader_first : first_refusal own (faults_of_reader known n row) ≡ option_or (first_refusal own alone) None
+  reader_first : first_refusal own (faults_of_reader known n row) ≡ option_or (option_or (first_refusal own alone) None) None
   reader_first =
-      first_append own alone (faults_of_key_again known n (key_in row))
-      ∙ ap (option_or (first_refusal own alone)) (again_apart n (naming_key (key_in row)) (known_at known (key_in row)))
+      let again = again_apart n (naming_key (key_in row)) (known_at known (key_in row)) in
+      let name = none_of_each own (faults_of_name n row) (name_off n (key_fault name_key.1 (get name_key.0 row))) in
+      first_append own (faults_of_entry known n row) (faults_of_name n row)
+      ∙ ap (λ one. option_or one (first_refusal own (faults_of_name n row)))
+      (first_append own alone (faults_of_key_again known n (key_in row)))
+      ∙ (λ i. option_or (option_or (first_refusal own alone) (again i)) (name i))
 
   own_bad : is_some (entry_of row) ≡ false → first_refusal own (faults_of_readers known n (item row rest)) ≡ Some (place.Reader n)
   own_bad bad =
       first_append own (faults_of_reader known n row) more
       ∙ ap (λ one. option_or one (first_refusal own more))
-      (reader_first ∙ ap (λ one. option_or one None) (own_here n alone (row_own n row) (reader_entry n row ∙ bad)))
+      (reader_first ∙ ap (λ one. option_or (option_or one None) None) (first_there own (place.Reader n) alone (row_own n row)
+      (reader_entry n row ∙ bad)))
 
   own_good : is_some (entry_of row) ≡ true → first_refusal own (faults_of_readers known n (item row rest)) ≡ first_refusal own more
   own_good good =
       first_append own (faults_of_reader known n row) more
       ∙ ap (λ one. option_or one (first_refusal own more))
-      (reader_first ∙ ap (λ one. option_or one None) (none_of_clear own alone (reader_entry n row ∙ good)))
+      (reader_first ∙ ap (λ one. option_or (option_or one None) None) (none_of_clear own alone (reader_entry n row ∙ good)))
 
 same_row : (m n : ℕ) → ◌≡◌ {A = Result (List Entry) ReadersError} (Err (BadRow m)) (Err (BadRow n)) → m ≡ n
 same_row m n is = cc
@@ -209,46 +204,22 @@ rows_bad rows m is = by (entries_from [] 1 rows) refl is
     by (Ok entries) eq is = absurd (readers_never none_listed 1 entries m is)
     by (Err e) eq is = bad_row_told [] nobody_known 1 rows m (eq ∙ refused e is)
 
-none_off : (place : Place) (found : List Finding) → is_of_reader place ≡ false → AreAt place found → first_refusal own found ≡ None
-none_off place [] is are = refl
-none_off place (finding ∷ found) is are =
-    by (is_refusal finding) (is_of_reader finding.place) (not (is_again finding.what)) (none_off place found is are.1)
-    (ap is_of_reader are.0 ∙ is)
-  where
-    by : (b t a : Bool) → first_refusal own found ≡ None → t ≡ false
-        → option_map (λ one. one.place) (cond (b && (t && a)) (Some finding) (find (λ one. is_refusal one && own one) found)) ≡ None
-    by b true a rest never = cc
-    by true false a rest never = rest
-    by false false a rest never = rest
+off : (place : Place) → is_of_reader place ≡ false → IsOff own place
+off place is = λ one at. ap (λ place. is_of_reader place && (not (is_of_name one.key) && not (is_again one.what))) at
+    ∙ ap (λ b. b && (not (is_of_name one.key) && not (is_again one.what))) is
 
 pub bad_row_is_told : (document : Members) (n : ℕ) → config_of_document document ≡ Err (BadReaders (BadRow n))
     → first_refusal own (findings_of document) ≡ Some (place.Reader n)
 bad_row_is_told document n is =
-    let at : List ℕ → Option Data = λ key. get_member key document in
-    let top = faults_of_keys place.Document top_keys at in
-    let markdown = faults_of_held place.Markdown markdown_keys (at (codes "markdown")) in
-    let listen = faults_of_held place.Listen listen_keys (at (codes "listen")) in
-    let browse = faults_of_held place.Browse browse_keys (at (codes "browse")) in
     let readers = faults_of_readers nobody_known 1 (rows_at (codes "reader") document) in
     let pages = faults_of_pages 1 (rows_at (codes "page") document) in
     let folders = faults_of_folders 1 (rows_at (codes "folder") document) in
-    let none_top = none_off place.Document top refl (keys_at_place place.Document top_keys at) in
-    let none_markdown = none_off place.Markdown markdown refl (held_at place.Markdown markdown_keys (at (codes "markdown"))) in
-    let none_listen = none_off place.Listen listen refl (held_at place.Listen listen_keys (at (codes "listen"))) in
-    let none_browse = none_off place.Browse browse refl (held_at place.Browse browse_keys (at (codes "browse"))) in
-    let told = by_tables (tables_at (get_member (codes "reader") document)) (of_readers (readers_of_document document) document
-    (BadRow n) is) in
-    first_append own (faults_of document) (warnings_of document)
-    ∙ ap (λ one. option_or one (first_refusal own (warnings_of document)))
-    (first_append own (top ++ faults_of_tables document) (faults_of_rows document)
-    ∙ ap (λ one. option_or one (first_refusal own (faults_of_rows document))) (first_append own top (faults_of_tables document)
-    ∙ ap (option_or (first_refusal own top)) (first_append own (markdown ++ listen) browse
-    ∙ ap (λ one. option_or one (first_refusal own browse)) (first_append own markdown listen)))
-    ∙ (λ i. option_or (option_or (none_top i) (option_or (option_or (none_markdown i) (none_listen i)) (none_browse i)))
-    (first_refusal own (faults_of_rows document)))
-    ∙ first_append own (readers ++ pages) folders
+    first_of_rows own document (off place.Document refl) (off place.Markdown refl) (off place.Listen refl) (off place.Browse refl)
+    (place.Reader n)
+    (first_append own (readers ++ pages) folders
     ∙ ap (λ one. option_or one (first_refusal own folders)) (first_append own readers pages
-    ∙ ap (λ one. option_or one (first_refusal own pages)) told))
+    ∙ ap (λ one. option_or one (first_refusal own pages))
+    (by_tables (tables_at (get_member (codes "reader") document)) (of_readers (readers_of_document document) document (BadRow n) is))))
   where
     by_tables : (tables : Option Items) → table_of (readers_of_entries (entries_of (reader_tables tables))) ≡ Err (BadRow n)
         → first_refusal own (faults_of_readers nobody_known 1 (rows_of tables)) ≡ Some (place.Reader n)

@@ -14,10 +14,10 @@ use Rattle.doc_server_lint.specs.declared.what.What.TheVariants.{TokenOf, Unknow
 use Rattle.doc_server_lint.specs.declared.known_readers.KnownReaders.{KnownReaders}
 use Rattle.doc_server_lint.specs.Faults.{fault_of_key, faults_of_closed, faults_of_held, faults_of_keys, faults_of_page}
 use Rattle.doc_server_lint.specs.Faults.{faults_of_pages}
-use Rattle.doc_server_lint.specs.Faults.{faults_of_reader, faults_of_readers, faults_of_row, finding_of, known_at, naming_fault, naming_key}
-use Rattle.doc_server_lint.specs.Faults.{source_fault, with_reader}
+use Rattle.doc_server_lint.specs.Faults.{faults_of_entry, faults_of_name, faults_of_reader, faults_of_readers, faults_of_row, finding_of, known_at}
+use Rattle.doc_server_lint.specs.Faults.{naming_fault, naming_key, source_fault, with_reader}
 use Rattle.doc_server_lint.specs.Laws.{first_refusal, is_clear, is_refusal}
-use Rattle.doc_server_lint.specs.Rules.{Keys, names_of, page_keys, reader_keys}
+use Rattle.doc_server_lint.specs.Rules.{Keys, name_key, names_of, page_keys, reader_keys}
 use Rattle.doc_server_lint.specs.Unknown.{meant, unknown_in, unknown_in_table, unknown_key}
 use Rattle.doc_server_lint.specs.Values.{key_fault}
 
@@ -58,34 +58,63 @@ pub each_flat : {X Y : Type 0} (P : Y → Type 0) (tell : X → List Y) (xs : Li
 each_flat P tell [] each = tt
 each_flat P tell (x ∷ xs) each = each_append P (tell x) (flat_map tell xs) (each x) (each_flat P tell xs each)
 
+pub each_map : {X : Type 0} (P Q : X → Type 0) (xs : List X) → ((x : X) → P x → Q x) → Each P xs → Each Q xs
+each_map P Q [] turn each = tt
+each_map P Q (x ∷ xs) turn each = (turn x each.0, each_map P Q xs turn each.1)
+
 -- findings of one place
 abbrev pub AreAt : Place → List Finding → Type 0
 AreAt place found = Each (λ finding. finding.place ≡ place) found
 
-pub none_elsewhere : (test : Place → Bool) (place : Place) (found : List Finding) → test place ≡ false → AreAt place found
-    → first_refusal (λ finding. test finding.place) found ≡ None
-none_elsewhere test place [] is are = refl
-none_elsewhere test place (finding ∷ found) is are =
-    by (is_refusal finding) (test finding.place) (none_elsewhere test place found is are.1) (ap test are.0 ∙ is)
+-- a finding of a place that passes a test
+abbrev pub IsAt : (Finding → Bool) → Place → Finding → Type 0
+IsAt test place finding = (test finding ≡ true) × (finding.place ≡ place)
+
+-- no finding of a place passes a test
+abbrev pub IsOff : (Finding → Bool) → Place → Type 0
+IsOff test place = (finding : Finding) → finding.place ≡ place → test finding ≡ false
+
+pub none_of_each : (test : Finding → Bool) (found : List Finding) → Each (λ finding. test finding ≡ false) found
+    → first_refusal test found ≡ None
+none_of_each test [] each = refl
+none_of_each test (finding ∷ found) each = by (is_refusal finding) (test finding) (none_of_each test found each.1) each.0
   where
-    by : (b t : Bool) → first_refusal (λ one. test one.place) found ≡ None → t ≡ false
-        → option_map (λ one. one.place) (cond (b && t) (Some finding) (find (λ one. is_refusal one && test one.place) found)) ≡ None
+    by : (b t : Bool) → first_refusal test found ≡ None → t ≡ false
+        → option_map (λ one. one.place) (cond (b && t) (Some finding) (find (λ one. is_refusal one && test one) found)) ≡ None
     by b true rest never = cc
     by true false rest never = rest
     by false false rest never = rest
 
+pub none_there : (test : Finding → Bool) (place : Place) (found : List Finding) → IsOff test place → AreAt place found
+    → first_refusal test found ≡ None
+none_there test place found off are =
+    none_of_each test found (each_map (λ finding. finding.place ≡ place) (λ finding. test finding ≡ false) found off are)
+
+pub first_there : (test : Finding → Bool) (place : Place) (found : List Finding) → Each (IsAt test place) found → is_clear found ≡ false
+    → first_refusal test found ≡ Some place
+first_there test place [] each bad = cc
+first_there test place (finding ∷ found) each bad =
+    by (is_refusal finding) (test finding) (first_there test place found each.1) each.0.0 bad
+  where
+    by : (b t : Bool) → (is_clear found ≡ false → first_refusal test found ≡ Some place) → t ≡ true
+        → (not b && is_clear found) ≡ false
+        → option_map (λ one. one.place) (cond (b && t) (Some finding) (find (λ one. is_refusal one && test one) found)) ≡ Some place
+    by b false rest never bad = cc
+    by true true rest holds bad = ap Some each.0.1
+    by false true rest holds bad = rest bad
+
 pub first_here : (test : Place → Bool) (place : Place) (found : List Finding) → test place ≡ true → AreAt place found
     → is_clear found ≡ false → first_refusal (λ finding. test finding.place) found ≡ Some place
-first_here test place [] is are bad = cc
-first_here test place (finding ∷ found) is are bad =
-    by (is_refusal finding) (test finding.place) (first_here test place found is are.1) (ap test are.0 ∙ is) bad
-  where
-    by : (b t : Bool) → (is_clear found ≡ false → first_refusal (λ one. test one.place) found ≡ Some place) → t ≡ true
-        → (not b && is_clear found) ≡ false
-        → option_map (λ one. one.place) (cond (b && t) (Some finding) (find (λ one. is_refusal one && test one.place) found)) ≡ Some place
-    by b false rest never bad = cc
-    by true true rest holds bad = ap Some are.0
-    by false true rest holds bad = rest bad
+first_here test place found is are =
+    first_there (λ finding. test finding.place) place found
+    (each_map (λ finding. finding.place ≡ place) (IsAt (λ finding. test finding.place) place) found (λ one at. (ap test at ∙ is, at)) are)
+
+-- what holds of what is told of each of these keys
+pub keys_each : (P : Finding → Type 0) (place : Place) (keys : Keys) (held : List ℕ → Option Data)
+    → Each (λ key. Each P (fault_of_key place held key)) keys → Each P (faults_of_keys place keys held)
+keys_each P place [] held each = tt
+keys_each P place (key ∷ keys) held each =
+    each_append P (fault_of_key place held key) (faults_of_keys place keys held) each.0 (keys_each P place keys held each.1)
 
 -- ---- where things are told
 
@@ -136,10 +165,15 @@ row_at n row =
     (finding_at true (place.Reader n) (Some (codes "token")) (naming_fault (get (codes "token") row) (get (codes "token_sha256") row)))
     (keys_at_place (place.Reader n) reader_keys (λ key. get key row))
 
-pub reader_at : (known : KnownReaders) (n : ℕ) (row : Data) → AreAt (place.Reader n) (faults_of_reader known n row)
-reader_at known n row =
+entry_at : (known : KnownReaders) (n : ℕ) (row : Data) → AreAt (place.Reader n) (faults_of_entry known n row)
+entry_at known n row =
     each_append (λ finding. finding.place ≡ place.Reader n) (faults_of_row n row) _ (row_at n row)
     (finding_at true (place.Reader n) (Some (naming_key (key_in row))) (option_map TokenOf (known_at known (key_in row))))
+
+reader_at : (known : KnownReaders) (n : ℕ) (row : Data) → AreAt (place.Reader n) (faults_of_reader known n row)
+reader_at known n row =
+    each_append (λ finding. finding.place ≡ place.Reader n) (faults_of_entry known n row) (faults_of_name n row) (entry_at known n row)
+    (finding_at true (place.Reader n) (Some name_key.0) (key_fault name_key.1 (get name_key.0 row)))
 
 -- ---- where nothing of a kind is told
 
@@ -147,7 +181,8 @@ pub no_readers : (test : Place → Bool) → ((n : ℕ) → test (place.Reader n
     (rows : Items) → first_refusal (λ finding. test finding.place) (faults_of_readers known n rows) ≡ None
 no_readers test is known n no_items = refl
 no_readers test is known n (item row rest) =
-    let here = none_elsewhere test (place.Reader n) (faults_of_reader known n row) (is n) (reader_at known n row) in
+    let here = none_there (λ finding. test finding.place) (place.Reader n) (faults_of_reader known n row) (λ one at. ap test at ∙ is n)
+    (reader_at known n row) in
     first_append (λ finding. test finding.place) (faults_of_reader known n row) _
     ∙ (λ i. option_or (here i) (no_readers test is (with_reader known (key_in row) n) (n + 1) rest i))
 
@@ -155,5 +190,6 @@ pub no_pages : (test : Place → Bool) → ((n : ℕ) → test (place.Page n) �
     → first_refusal (λ finding. test finding.place) (faults_of_pages n rows) ≡ None
 no_pages test is n no_items = refl
 no_pages test is n (item row rest) =
-    let here = none_elsewhere test (place.Page n) (faults_of_page n row) (is n) (page_at n row) in
+    let here = none_there (λ finding. test finding.place) (place.Page n) (faults_of_page n row) (λ one at. ap test at ∙ is n)
+    (page_at n row) in
     first_append (λ finding. test finding.place) (faults_of_page n row) _ ∙ (λ i. option_or (here i) (no_pages test is (n + 1) rest i))

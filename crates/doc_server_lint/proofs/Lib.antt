@@ -6,6 +6,7 @@ pub mod ClearTables
 pub mod ClearWarnings
 pub mod Counts
 pub mod FirstLaw
+pub mod FirstNames
 pub mod FirstReaders
 pub mod FirstRows
 pub mod FirstSteps

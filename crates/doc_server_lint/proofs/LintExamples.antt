@@ -1,23 +1,26 @@
 -- The definitions on worked examples.
 use lib.Utf8.{encode}
 use Rattle.std.proofs.Common.{◌≡◌, ℕ, List, [], ◌∷◌, true, false, codes, refl}
-use Rattle.std.specs.Prelude.{Some, None, option_map}
+use Rattle.std.specs.Prelude.{Option, Some, None, map, option_map}
 use Rattle.std.specs.Fmt.{digits}
 use Rattle.std.specs.Str.{chars}
 use Rattle.strsim.specs.Edits.{cost_at, next_row, rows}
+use Rattle.toml.specs.Data.{Members, table}
 use Rattle.toml.specs.Parse.{parse_document}
 use Rattle.toml.proofs.OnLiterals.{toml_on_literals}
 use Rattle.doc_page_parts.specs.Paths.{is_path}
 use Rattle.doc_store_readers.specs.Groups.{groups_of_names}
 use Rattle.doc_server_config.specs.BadFiles.{shown_name}
+use Rattle.doc_server_names.specs.Names.{is_name}
 use Rattle.doc_server_lint.specs.declared.finding.Finding.{Finding}
 use Rattle.doc_server_lint.specs.declared.place.Place.{Place}
 use Rattle.doc_server_lint.specs.declared.place.Place.TheVariants as place
 use Rattle.doc_server_lint.specs.declared.what.Kind.TheVariants as kind
 use Rattle.doc_server_lint.specs.declared.what.What.{What}
 use Rattle.doc_server_lint.specs.declared.what.What.TheVariants as what
-use Rattle.doc_server_lint.specs.Faults.{faults_of_folders, faults_of_pages, faults_of_tables, rows_at}
+use Rattle.doc_server_lint.specs.Faults.{faults_of_folders, faults_of_name, faults_of_pages, faults_of_tables, rows_at}
 use Rattle.doc_server_lint.specs.Lines.{finding_line}
+use Rattle.doc_server_lint.specs.Reports.{name_at}
 use Rattle.doc_server_lint.specs.Rules.{names_of, reader_keys}
 use Rattle.doc_server_lint.specs.Unknown.{meant}
 
@@ -41,6 +44,29 @@ bad_login : option_map faults_of_tables (parse_document (codes "[browse]\nlogin 
     ≡ Some (fault place.Browse (codes "login") what.Bad ∷ [])
 unfolding toml_on_literals
 bad_login = refl
+
+-- ---- names of readers
+
+abbrev faults_in : Members → List Finding
+faults_in row = faults_of_name 2 (table row)
+
+bad_names :
+    (option_map faults_in (parse_document (codes "name = \"Ann\"\n")) ≡ Some (fault (place.Reader 2) (codes "name") what.NoName ∷ []))
+    × (option_map faults_in (parse_document (codes "name = 5\n"))
+    ≡ Some (fault (place.Reader 2) (codes "name") (what.MustBe kind.Text) ∷ []))
+    × (option_map faults_in (parse_document (codes "name = \"ann\"\n")) ≡ Some [])
+    × (option_map faults_in (parse_document (codes "owner = 5\n")) ≡ Some [])
+unfolding toml_on_literals is_name
+bad_names = (refl, refl, refl, refl)
+
+abbrev names_in : Members → List (Option (List ℕ))
+names_in document = map (λ row. name_at document (place.Reader row)) (1 ∷ 2 ∷ 3 ∷ 4 ∷ [])
+
+shown_names : option_map names_in
+    (parse_document (codes "[[reader]]\nname = \"Ann\"\n[[reader]]\nname = \"ann\"\n[[reader]]\n"))
+    ≡ Some (None ∷ Some (codes "ann") ∷ None ∷ None ∷ [])
+unfolding toml_on_literals is_name
+shown_names = refl
 
 -- ---- pages and folders
 
@@ -87,6 +113,16 @@ page_line : finding_line (codes "site.toml") None (Some (codes "a.md")) (fault (
     ≡ codes "site.toml: page 12 (a.md): `text` has more than 1048576 bytes\n"
 unfolding shown_name chars encode digits
 page_line = refl
+
+reader_line : finding_line (codes "site.toml") (Some 12) (Some (codes "ann")) (fault (place.Reader 3) (codes "owner") (what.MustBe kind.Boolean))
+    ≡ codes "site.toml:12: reader 3 (ann): `owner` must be a boolean\n"
+unfolding shown_name chars encode digits
+reader_line = refl
+
+name_line : finding_line (codes "site.toml") (Some 8) None (fault (place.Reader 2) (codes "name") what.NoName)
+    ≡ codes "site.toml:8: reader 2: `name` must be 1 to 32 of a-z, 0-9, `-`, `_`, `.` and `@`\n"
+unfolding shown_name chars encode digits
+name_line = refl
 
 document_line : finding_line (codes "site.toml") None None (fault place.Document (codes "cache") (what.MustBe (kind.Integer 4096)))
     ≡ codes "site.toml: `cache` must be an integer from 1 to 4096\n"

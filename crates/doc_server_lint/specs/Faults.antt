@@ -18,7 +18,7 @@ use Rattle.doc_server_lint.specs.declared.place.Place.TheVariants.{Document, Mar
 use Rattle.doc_server_lint.specs.declared.rule.Rule.{Rule}
 use Rattle.doc_server_lint.specs.declared.what.What.{What}
 use Rattle.doc_server_lint.specs.declared.what.What.TheVariants.{Missing, TwoTokens, TokenOf, NoSource, TwoSources}
-use Rattle.doc_server_lint.specs.Rules.{Keys, names_of, top_keys, markdown_keys, listen_keys, browse_keys, reader_keys, page_keys}
+use Rattle.doc_server_lint.specs.Rules.{Keys, names_of, top_keys, markdown_keys, listen_keys, browse_keys, reader_keys, name_key, page_keys}
 use Rattle.doc_server_lint.specs.Rules.{folder_keys}
 use Rattle.doc_server_lint.specs.Unknown.{unknown_in}
 use Rattle.doc_server_lint.specs.Values.{key_fault}
@@ -101,7 +101,7 @@ naming_key None = codes "token"
 naming_key (Some (keys.Token token)) = codes "token"
 naming_key (Some (keys.Digest digest)) = codes "token_sha256"
 
--- a reader's own faults
+-- the faults of a reader's entry, by itself
 abbrev pub faults_of_row : ℕ → Data → List Finding
 faults_of_row n row =
     finding_of true (Reader n) (Some (codes "token")) (naming_fault (get (codes "token") row) (get (codes "token_sha256") row))
@@ -111,9 +111,16 @@ faults_of_row n row =
 abbrev pub faults_of_key_again : KnownReaders → ℕ → Option Key → List Finding
 faults_of_key_again known n key = finding_of true (Reader n) (Some (naming_key key)) (option_map TokenOf (known_at known key))
 
--- the faults of a reader, beside those before it
+-- the faults of a reader's entry, beside those before it
+abbrev pub faults_of_entry : KnownReaders → ℕ → Data → List Finding
+faults_of_entry known n row = faults_of_row n row ++ faults_of_key_again known n (key_in row)
+
+-- what is told of its name
+abbrev pub faults_of_name : ℕ → Data → List Finding
+faults_of_name n row = fault_of_key (Reader n) (λ key. get key row) name_key
+
 abbrev pub faults_of_reader : KnownReaders → ℕ → Data → List Finding
-faults_of_reader known n row = faults_of_row n row ++ faults_of_key_again known n (key_in row)
+faults_of_reader known n row = faults_of_entry known n row ++ faults_of_name n row
 
 abbrev pub faults_of_readers : KnownReaders → ℕ → Items → List Finding
 faults_of_readers known n no_items = []

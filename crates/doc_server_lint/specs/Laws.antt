@@ -1,11 +1,11 @@
 -- Laws of what a document tells.
-use Rattle.std.specs.Prelude.{◌≡◌, ℕ, List, Bool, true, false, not, ◌&&◌, is_ok, Option, Some, option_map, Err}
+use Rattle.std.specs.Prelude.{◌≡◌, ℕ, List, Bool, true, false, not, ◌&&◌, bytes_eq, codes, is_ok, Option, Some, None, option_map, Err}
 use Rattle.std.specs.List.{find, list_all, list_any}
 use Rattle.toml.specs.Data.{Members}
 use Rattle.doc_store_readers.specs.declared.readers.ReadersError.TheVariants.{BadRow, Twice}
 use Rattle.doc_server_config.specs.declared.config.ConfigError.TheVariants.{BadPage, BadReaders}
 use Rattle.doc_server_config.specs.declared.folder.FolderFault.{FolderFault}
-use Rattle.doc_server_config.specs.declared.listening.ListeningError.TheVariants.{BadFolder}
+use Rattle.doc_server_config.specs.declared.listening.ListeningError.TheVariants.{BadFolder, BadName}
 use Rattle.doc_server_config.specs.Browsing.{browse_of_document}
 use Rattle.doc_server_config.specs.Configurations.{config_of_document}
 use Rattle.doc_server_config.specs.Listenings.{listening_of_document}
@@ -16,7 +16,7 @@ use Rattle.doc_server_lint.specs.declared.what.What.{What}
 use Rattle.doc_server_lint.specs.declared.what.What.TheVariants.{LongText, TokenOf}
 use Rattle.doc_server_lint.specs.Findings.{findings_of}
 
--- whether all that `listen` reads of a document is taken
+-- whether all that `listen` reads of a document is taken, the names of its readers too
 abbrev pub is_taken : Members → Bool
 is_taken document =
     is_ok (config_of_document document) && (is_ok (listening_of_document document) && is_ok (browse_of_document document))
@@ -70,17 +70,30 @@ abbrev pub BadFolderIsTold : Type 0
 BadFolderIsTold = (document : Members) (n : ℕ) (fault : FolderFault) → listening_of_document document ≡ Err (BadFolder n fault)
     → first_refusal (λ finding. is_of_folder finding.place) (findings_of document) ≡ Some (Folder n)
 
--- where each row has a good token, the reader with the token of an earlier one is the first of which a fault is told
+-- whether it is told of a name, which `listen` alone refuses, and behind all else of readers
+abbrev pub is_of_name : Option (List ℕ) → Bool
+is_of_name None = false
+is_of_name (Some key) = bytes_eq key (codes "name")
+
+-- where each row has a good token, the reader with the token of an earlier one is the first of which a fault is told, but of its name
 abbrev pub TwiceIsTold : Type 0
 TwiceIsTold = (document : Members) (n : ℕ) → config_of_document document ≡ Err (BadReaders (Twice n))
-    → first_refusal (λ finding. is_of_reader finding.place) (findings_of document) ≡ Some (Reader n)
+    → first_refusal (λ finding. is_of_reader finding.place && not (is_of_name finding.key)) (findings_of document) ≡ Some (Reader n)
 
 -- whether what is told is that an earlier reader has the token
 abbrev pub is_again : What → Bool
 is_again (TokenOf n) = true
 is_again other = false
 
--- the reader whose row is bad is the first of which anything else is told: rows are looked at before their tokens are compared
+-- the reader whose row is bad is the first of which anything else is told, but of its name: rows are looked at before their tokens are
+-- compared
 abbrev pub BadRowIsTold : Type 0
 BadRowIsTold = (document : Members) (n : ℕ) → config_of_document document ≡ Err (BadReaders (BadRow n))
-    → first_refusal (λ finding. is_of_reader finding.place && not (is_again finding.what)) (findings_of document) ≡ Some (Reader n)
+    → first_refusal (λ finding. is_of_reader finding.place && (not (is_of_name finding.key) && not (is_again finding.what)))
+    (findings_of document)
+    ≡ Some (Reader n)
+
+-- the reader that is refused for its name is the first of whose name a fault is told
+abbrev pub BadNameIsTold : Type 0
+BadNameIsTold = (document : Members) (n : ℕ) → listening_of_document document ≡ Err (BadName n)
+    → first_refusal (λ finding. is_of_reader finding.place && is_of_name finding.key) (findings_of document) ≡ Some (Reader n)

@@ -2,6 +2,7 @@
 use Rattle.std.specs.Prelude.{◌≡◌, ℕ, ◌-◌, List, [], ◌∷◌, ◌++◌, codes, Option, Some, None, IfSome, IsNone}
 use Rattle.toml.specs.Data.{Data, Members, at, get, get_member}
 use Rattle.doc_server_config.specs.PageRows.{path_at}
+use Rattle.doc_server_config.specs.ReaderNames.{name_at as name_of}
 use Rattle.doc_server_lint.specs.declared.finding.Finding.{Finding}
 use Rattle.doc_server_lint.specs.declared.place.Place.{Place}
 use Rattle.doc_server_lint.specs.declared.place.Place.TheVariants.{Document, Markdown, Listen, Browse, Reader, Page, Folder}
@@ -23,13 +24,19 @@ abbrev pub row_at : ℕ → Option Data → Option Data
 row_at row None = None
 row_at row (Some rows) = at (row - 1) rows
 
+-- the name of a reader, where it is one
+abbrev pub name_in : Option Data → Option (List ℕ)
+name_in None = None
+name_in (Some reader) = name_of (get (codes "name") reader)
+
 -- the path of a page, where it is one
 abbrev pub path_in : Option Data → Option (List ℕ)
 path_in None = None
 path_in (Some page) = path_at (get (codes "path") page)
 
--- the name of the row of a place: the path of a page, where it is good
+-- the name of the row of a place: that of a reader and the path of a page, where it is good
 abbrev pub name_at : Members → Place → Option (List ℕ)
+name_at document (Reader row) = name_in (row_at row (get_member (codes "reader") document))
 name_at document (Page row) = path_in (row_at row (get_member (codes "page") document))
 name_at document other = None
 

@@ -41,11 +41,15 @@ abbrev pub reader_keys : Keys
 reader_keys =
     (codes "token", Text form.Token) ∷ (codes "token_sha256", Text form.Digest) ∷ (codes "owner", Boolean) ∷ (codes "groups", Groups) ∷ []
 
--- those that are known of a reader: what its log goes by stops nobody
+-- the key of a reader that a server alone reads, for its log
+abbrev pub name_key : List ℕ × Rule
+name_key = (codes "name", Text form.Name)
+
+-- all that are known of a reader
 abbrev pub known_reader_keys : Keys
 known_reader_keys =
     (codes "token", Text form.Token) ∷ (codes "token_sha256", Text form.Digest) ∷ (codes "owner", Boolean) ∷ (codes "groups", Groups)
-    ∷ (codes "name", Text form.Any) ∷ []
+    ∷ name_key ∷ []
 
 abbrev pub page_keys : Keys
 page_keys =

@@ -17,14 +17,15 @@ use Rattle.doc_server_config.specs.FileNames.{is_prefix}
 use Rattle.doc_server_config.specs.FolderRules.{nfc_of, skips_of}
 use Rattle.doc_server_config.specs.Markdown.{matter_of}
 use Rattle.doc_server_config.specs.MediaNames.{media_of}
+use Rattle.doc_server_names.specs.Names.{is_name}
 use Rattle.doc_server_lint.specs.declared.rule.Form.{Form}
-use Rattle.doc_server_lint.specs.declared.rule.Form.TheVariants.{Any, Token, Digest, PagePath, PageText, Title, Language, Home, Login, Matter}
-use Rattle.doc_server_lint.specs.declared.rule.Form.TheVariants.{Prefix, Names, OnBad}
+use Rattle.doc_server_lint.specs.declared.rule.Form.TheVariants.{Any, Token, Digest, Name, PagePath, PageText, Title, Language, Home, Login}
+use Rattle.doc_server_lint.specs.declared.rule.Form.TheVariants.{Matter, Prefix, Names, OnBad}
 use Rattle.doc_server_lint.specs.declared.rule.Rule.{Rule}
 use Rattle.doc_server_lint.specs.declared.rule.Rule.TheVariants.{Boolean, Integer, Text, Needed, Groups, Except, Media, Table, Tables}
 use Rattle.doc_server_lint.specs.declared.what.Kind.TheVariants as kind
 use Rattle.doc_server_lint.specs.declared.what.What.{What}
-use Rattle.doc_server_lint.specs.declared.what.What.TheVariants.{MustBe, Bad, Missing, NoToken, NoGroup, ManyGroups, NoPath, LongText}
+use Rattle.doc_server_lint.specs.declared.what.What.TheVariants.{MustBe, Bad, Missing, NoToken, NoName, NoGroup, ManyGroups, NoPath, LongText}
 
 -- what is told of what isn't good
 abbrev pub told : What → Bool → Option What
@@ -37,6 +38,7 @@ abbrev pub is_form : Form → List ℕ → Bool
 is_form Any text = true
 is_form Token text = is_token text
 is_form Digest text = is_some (digest_of_text text)
+is_form Name text = is_name text
 is_form PagePath text = is_path text
 is_form PageText text = nat_le (length text) 1048576
 is_form Title text = is_title text
@@ -51,6 +53,7 @@ is_form OnBad text = is_some (skips_of text)
 -- what is told of a string that isn't
 abbrev pub form_told : Form → What
 form_told Token = NoToken
+form_told Name = NoName
 form_told PagePath = NoPath
 form_told PageText = LongText
 form_told other = Bad

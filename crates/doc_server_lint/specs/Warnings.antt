@@ -3,18 +3,17 @@ use Rattle.std.specs.Prelude.{ℕ, ◌+◌, List, [], ◌∷◌, ◌++◌, Bool,
 use Rattle.std.specs.Prelude.{if◌then◌else◌}
 use Rattle.std.specs.FinMap as map
 use Rattle.std.specs.List.{flat_map}
-use Rattle.toml.specs.Data.{Data, Items, no_items, item, Members, as_str, get, get_member}
+use Rattle.toml.specs.Data.{Data, Items, no_items, item, Members, get, get_member}
 use Rattle.doc_store_readers.specs.Keys.{key_in}
 use Rattle.doc_store_readers.specs.Readers.{groups_at, owner_at}
 use Rattle.doc_store_readers.specs.declared.keys.Key.{Key}
 use Rattle.doc_store_readers.specs.declared.keys.Key.TheVariants as keys
 use Rattle.doc_server_config.specs.PageRows.{path_at}
-use Rattle.doc_server_names.specs.Names.{is_name}
 use Rattle.doc_server_lint.specs.declared.finding.Finding.{Finding}
 use Rattle.doc_server_lint.specs.declared.place.Place.{Place}
 use Rattle.doc_server_lint.specs.declared.place.Place.TheVariants.{Document, Reader, Page, Folder}
 use Rattle.doc_server_lint.specs.declared.what.What.{What}
-use Rattle.doc_server_lint.specs.declared.what.What.TheVariants.{ShortToken, ClearToken, NoName, NoReaders, NoOwner, Covers, Unheld}
+use Rattle.doc_server_lint.specs.declared.what.What.TheVariants.{ShortToken, ClearToken, NoReaders, NoOwner, Covers, Unheld}
 use Rattle.doc_server_lint.specs.Faults.{Rows, finding_of, row_of, rows_at, with_row}
 use Rattle.doc_server_lint.specs.RowPlaces.{count_items}
 use Rattle.doc_server_lint.specs.Rules.{names_of, top_keys, known_reader_keys, page_keys}
@@ -45,20 +44,10 @@ token_warning None = None
 token_warning (Some (keys.Token token)) = Some (clear_token token)
 token_warning (Some (keys.Digest digest)) = None
 
--- what isn't a good name counts as none
-abbrev pub is_name_text : Option (List ℕ) → Bool
-is_name_text None = false
-is_name_text (Some text) = is_name text
-
-abbrev pub name_warning : Option Data → Option What
-name_warning None = None
-name_warning (Some name) = told NoName (is_name_text (as_str name))
-
 abbrev pub warnings_of_reader : ℕ → Data → List Finding
 warnings_of_reader n row =
     unknown_in false (Reader n) (names_of known_reader_keys) row
     ++ finding_of false (Reader n) (Some (codes "token")) (token_warning (key_in row))
-    ++ finding_of false (Reader n) (Some (codes "name")) (name_warning (get (codes "name") row))
 
 abbrev pub warnings_of_readers : ℕ → Items → List Finding
 warnings_of_readers n no_items = []

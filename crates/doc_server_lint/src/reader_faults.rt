@@ -5,15 +5,15 @@ ghost use Rattle.toml.specs.Data.{as_str, get};
 ghost use Rattle.toml.specs.View.{items_view, view};
 ghost use Rattle.doc_store_readers.specs.Keys.{digest_of_text, good_token, key_in};
 ghost use Rattle.doc_store_readers.specs.declared.keys.Key.TheVariants as keys;
-ghost use Rattle.doc_server_lint.specs.Faults.{faults_of_key_again, faults_of_reader, faults_of_readers, faults_of_row, naming_fault};
-ghost use Rattle.doc_server_lint.specs.Faults.{nobody_known, with_reader};
+ghost use Rattle.doc_server_lint.specs.Faults.{faults_of_entry, faults_of_key_again, faults_of_name, faults_of_reader, faults_of_readers, faults_of_row};
+ghost use Rattle.doc_server_lint.specs.Faults.{naming_fault, nobody_known, with_reader};
 
 use crate::digests::digest_of_text;
 use crate::finding::Finding;
 use crate::known_readers::KnownReaders;
 use crate::place::Place;
-use crate::rule::READER_KEYS;
-use crate::table_faults::{push_faults_of_keys, push_told};
+use crate::rule::{Form, READER_KEYS, Rule};
+use crate::table_faults::{push_fault_of_key, push_faults_of_keys, push_told};
 use crate::what::What;
 use doc_page_parts::failure::Memory;
 use doc_page_parts::heap::{Heap, Vec};
@@ -50,6 +50,23 @@ fn push_faults_of_reader(
     ensures known { OnOk result
         (known.new ≡ with_reader known.old (key_in (view row.now)) number) }
 {
+    push_faults_of_entry(heap, found, known, number, row)?;
+    push_faults_of_name(heap, found, number, row)
+}
+
+/// The same but for its name.
+fn push_faults_of_entry(
+    heap: Heap,
+    found: &mut Vec<Finding>,
+    known: &mut KnownReaders,
+    number: usize,
+    row: &Value,
+) -> Result<(), Memory>
+    ensures faults { OnOk result (found.new.items ≡ found.old.items
+        ++ faults_of_entry known.old number (view row.now)) }
+    ensures known { OnOk result
+        (known.new ≡ with_reader known.old (key_in (view row.now)) number) }
+{
     push_faults_of_row(heap, found, number, row)?;
     match (row.get("token"), row.get("token_sha256")) {
         (Some(token), None) => push_token(heap, found, known, number, token),
@@ -58,7 +75,27 @@ fn push_faults_of_reader(
     }
 }
 
-/// Adds a reader's own faults.
+/// Adds what is told of a reader's name.
+fn push_faults_of_name(
+    heap: Heap,
+    found: &mut Vec<Finding>,
+    number: usize,
+    row: &Value,
+) -> Result<(), Memory>
+    ensures { OnOk result (found.new.items ≡ found.old.items
+        ++ faults_of_name number (view row.now)) }
+{
+    push_fault_of_key(
+        heap,
+        found,
+        Place::Reader(number),
+        "name",
+        Rule::Text(Form::Name),
+        row.get("name"),
+    )
+}
+
+/// Adds the faults of a reader's entry, by itself.
 fn push_faults_of_row(
     heap: Heap,
     found: &mut Vec<Finding>,

@@ -6,7 +6,7 @@ ghost use Rattle.toml.specs.View.{items_view, view};
 ghost use Rattle.doc_store_readers.specs.Keys.{good_token, key_in};
 ghost use Rattle.doc_store_readers.specs.Readers.{owner_at};
 ghost use Rattle.doc_store_readers.specs.declared.keys.Key.TheVariants as keys;
-ghost use Rattle.doc_server_lint.specs.Warnings.{has_owner, is_name_text, is_owner, name_warning, owners_warning, token_warning};
+ghost use Rattle.doc_server_lint.specs.Warnings.{has_owner, is_owner, owners_warning, token_warning};
 ghost use Rattle.doc_server_lint.specs.Warnings.{warnings_of_reader, warnings_of_readers};
 
 use crate::finding::Finding;
@@ -19,7 +19,6 @@ use crate::unknown::push_unknown_in;
 use crate::what::What;
 use doc_page_parts::failure::Memory;
 use doc_page_parts::heap::{Heap, Vec};
-use doc_server_names::reader_name::is_name;
 use toml::Value;
 
 /// How many characters a token has at least, so that nobody guesses it.
@@ -87,8 +86,7 @@ fn push_warnings_of_reader(
 {
     let place = Place::Reader(number);
     push_unknown_in(heap, found, false, place, KNOWN_READER_KEYS, row)?;
-    push_told(heap, found, false, place, Some("token"), token_warning(row))?;
-    push_told(heap, found, false, place, Some("name"), name_warning(row))
+    push_told(heap, found, false, place, Some("token"), token_warning(row))
 }
 
 fn token_warning(row: &Value) -> Option<What>
@@ -109,24 +107,4 @@ fn clear_token(value: &Value) -> Option<What>
         return Some(What::ClearToken);
     }
     Some(What::ShortToken)
-}
-
-/// What is told of a reader's name.
-fn name_warning(row: &Value) -> Option<What>
-    ensures { result ≡ name_warning (get (codes "name") (view row.now)) }
-{
-    let name = row.get("name")?;
-    if is_name_text(name) {
-        return None;
-    }
-    Some(What::NoName)
-}
-
-fn is_name_text(value: &Value) -> bool
-    ensures { result ≡ is_name_text (as_str (view value.now)) }
-{
-    match value.as_str() {
-        Some(text) => is_name(text.as_bytes()),
-        None => false,
-    }
 }

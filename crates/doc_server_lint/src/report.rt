@@ -1,9 +1,10 @@
 //! All findings, as they are printed.
 
-ghost use Rattle.std.specs.Prelude.{◌≡◌, ◌++◌, IfOk, IfSome, OnOk, string_bytes};
-ghost use Rattle.toml.specs.View.{table_view};
+ghost use Rattle.std.specs.Prelude.{◌≡◌, ◌++◌, IfOk, IfSome, OnOk, option_map, string_bytes};
+ghost use Rattle.toml.specs.Data.{get_member};
+ghost use Rattle.toml.specs.View.{table_view, view};
 ghost use Rattle.doc_server_lint.specs.Lines.{finding_line};
-ghost use Rattle.doc_server_lint.specs.Reports.{IsLine, IsReport, name_at};
+ghost use Rattle.doc_server_lint.specs.Reports.{IsLine, IsReport, name_at, name_in, path_in, row_at};
 ghost use Rattle.doc_server_lint.specs.RowPlaces.{IsLineOf};
 
 use crate::finding::Finding;
@@ -14,8 +15,9 @@ use crate::row_line::line_of_row;
 use doc_page_parts::failure::Memory;
 use doc_page_parts::heap::{Heap, String};
 use doc_page_parts::text::Text;
+use doc_server_config::reader_names::name_in;
 use doc_server_config::table::value_at;
-use toml::Table;
+use toml::{Table, Value};
 
 /// How many lines are looked up: each takes the time to read the text up to it twice.
 const LOOKS: usize = 20;
@@ -83,13 +85,39 @@ fn look(heap: Heap, text: &str, key: &str, row: usize, looks: &mut usize) -> Opt
 fn name_at(heap: Heap, document: &Table, place: Place) -> Result<Option<Text>, Memory>
     ensures { IfOk result (λ name. name ≡ name_at (table_view document.now) place) }
 {
-    let Place::Page(row) = place else {
+    match place {
+        Place::Reader(row) => name_of_reader(heap, row_at(document, "reader", row)),
+        Place::Page(row) => path_of_page(heap, row_at(document, "page", row)),
+        _ => Ok(None),
+    }
+}
+
+/// The row of this number of what a document holds under a key.
+fn row_at<'a>(document: &'a Table, key: &str, row: usize) -> Option<&'a Value>
+    ensures { option_map (λ one. view one.now) result
+        ≡ row_at row (get_member key.now (table_view document.now)) }
+{
+    value_at(document, key)?.get(row.saturating_sub(1))
+}
+
+fn name_of_reader(heap: Heap, reader: Option<&Value>) -> Result<Option<Text>, Memory>
+    ensures { IfOk result
+        (λ name. name ≡ name_in (option_map (λ one. view one.now) reader.entry)) }
+{
+    let Some(reader) = reader else {
         return Ok(None);
     };
-    let Some(pages) = value_at(document, "page") else {
-        return Ok(None);
-    };
-    match pages.get(row.saturating_sub(1)) {
+    match name_in(reader) {
+        Some(name) => Ok(Some(Text::copy_of(heap, name)?)),
+        None => Ok(None),
+    }
+}
+
+fn path_of_page(heap: Heap, page: Option<&Value>) -> Result<Option<Text>, Memory>
+    ensures { IfOk result
+        (λ path. path ≡ path_in (option_map (λ one. view one.now) page.entry)) }
+{
+    match page {
         Some(page) => path_of(heap, page),
         None => Ok(None),
     }

@@ -8,6 +8,8 @@ pub enum Form {
     Token,
     /// The SHA-256 of one (FIPS 180-4), 64 digits of `0-9` and `a-f`.
     Digest,
+    /// The name of a reader.
+    Name,
     /// The path of a page.
     PagePath,
     /// The text of a page, which has its bound.
@@ -102,13 +104,13 @@ pub(crate) const READER_KEYS: &[(&str, Rule)] = &[
     ("groups", Rule::Groups),
 ];
 
-/// The keys that are known of a reader: what its log goes by stops nobody.
+/// The keys that are known of a reader. Of the last a server alone reads, for its log.
 pub(crate) const KNOWN_READER_KEYS: &[(&str, Rule)] = &[
     ("token", Rule::Text(Form::Token)),
     ("token_sha256", Rule::Text(Form::Digest)),
     ("owner", Rule::Boolean),
     ("groups", Rule::Groups),
-    ("name", Rule::Text(Form::Any)),
+    ("name", Rule::Text(Form::Name)),
 ];
 
 /// The keys of a page.

@@ -87,7 +87,7 @@ pub(crate) fn push_faults_of_keys(
 }
 
 /// Adds the fault of what a key holds.
-fn push_fault_of_key(
+pub(crate) fn push_fault_of_key(
     heap: Heap,
     found: &mut Vec<Finding>,
     place: Place,

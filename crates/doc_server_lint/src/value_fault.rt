@@ -28,6 +28,7 @@ use doc_server_config::file_name::is_prefix;
 use doc_server_config::folder_rules::{nfc_of, skips_of};
 use doc_server_config::markdown::matter_of;
 use doc_server_config::media_names::listed_media;
+use doc_server_names::reader_name::is_name;
 use doc_store::groups::{Groups, GroupsError};
 use toml::Value;
 
@@ -113,6 +114,7 @@ fn is_form(heap: Heap, form: Form, text: &str) -> Result<bool, Memory>
         Form::Any => Ok(true),
         Form::Token => Ok(is_token(text.as_bytes())),
         Form::Digest => Ok(digest_of_text(text).is_some()),
+        Form::Name => Ok(is_name(text.as_bytes())),
         Form::PagePath => is_path(heap, text),
         Form::PageText => Ok(text.len() <= TEXT_LIMIT),
         Form::Title => Ok(is_title(text)),
@@ -143,6 +145,7 @@ fn form_told(form: Form) -> What
 {
     match form {
         Form::Token => What::NoToken,
+        Form::Name => What::NoName,
         Form::PagePath => What::NoPath,
         Form::PageText => What::LongText,
         _ => What::Bad,

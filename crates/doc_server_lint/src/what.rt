@@ -37,7 +37,7 @@ pub enum What {
     ShortToken,
     /// The token stands in clear text.
     ClearToken,
-    /// The key holds no name of a reader.
+    /// The key holds a string that is no name of a reader.
     NoName,
     NoReaders,
     /// No reader is an owner.
