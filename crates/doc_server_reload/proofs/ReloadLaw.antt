@@ -9,9 +9,9 @@ use Rattle.doc_media.specs.Media.{Media}
 use Rattle.doc_server_restore.specs.declared.fault.RestoreFault.{RestoreFault}
 use Rattle.doc_server_restore.specs.declared.fault.RestoreFault.TheVariants as faults
 use Rattle.doc_server_restore.specs.Restores.{after_record, all_made, edits_of, refused_from, restored_from, unstamped}
-use Rattle.doc_server_reload.specs.Laws.{ReloadIsARestart}
+use Rattle.doc_server_reload.specs.Laws.{AReloadIsARestartBeside, ReloadIsARestart}
 use Rattle.doc_server_reload.proofs.KeptSites.{all_kept}
-use Rattle.doc_server_reload.proofs.MadeLaw.{led_is_made}
+use Rattle.doc_server_reload.proofs.MadeLaw.{led_is_made, led_is_made_beside}
 
 err_not_ok : {X E : Type 0} (e : E) (x : X) → ◌≡◌ {A = Result X E} (Err e) (Ok x) → ⊥
 err_not_ok e x is = cc
@@ -49,6 +49,10 @@ module _ (media : Media) where
           ]) (Ok next) → IsSite next.site
       by (Err fault) each one more = absurd (err_not_ok fault next more)
       by (Ok mid) each one more = each mid one more
+
+pub a_reload_is_a_restart_beside : AReloadIsARestartBeside
+a_reload_is_a_restart_beside media old config again records is_old is_config restored apart room =
+    led_is_made_beside media old again.site is_old (records_kept media records 1 (unstamped config) again is_config restored) apart room
 
 pub reload_is_a_restart : ReloadIsARestart
 reload_is_a_restart old config again records is_old is_config restored room =

@@ -1,6 +1,6 @@
 //! Laws of a reload. Each function does nothing: its contract is the law.
 
-ghost use Rattle.doc_server_reload.specs.Laws.{LedGivesTheSite, LedIsMade, LedIsMadeBeside, NothingLeadsToItself};
+ghost use Rattle.doc_server_reload.specs.Laws.{AReloadIsARestartBeside, LedGivesTheSite, LedIsMade, LedIsMadeBeside, NothingLeadsToItself};
 ghost use Rattle.doc_server_reload.specs.Laws.{ReloadIsARestart, WhatIsMadeGivesTheSite};
 
 /// The edits that lead a site to another make it the other, aliases included: where both are sites.
@@ -36,4 +36,9 @@ pub fn what_is_made_gives_the_site()
 /// within a store's limits, and stamps are left for the edits.
 pub fn a_reload_is_a_restart()
     ensures { ReloadIsARestart }
+{}
+
+/// So it is beside media, where what is restored has no page and no alias on the path of one.
+pub fn a_reload_is_a_restart_beside()
+    ensures { AReloadIsARestartBeside }
 {}
