@@ -8,4 +8,5 @@ pub mod LeadLaw
 pub mod MadeLaw
 mod PushSteps
 pub mod ReloadLaw
+mod ReplyLaw
 mod Sizes
