@@ -10,3 +10,4 @@ mod PushSteps
 pub mod ReloadLaw
 mod ReplyLaw
 mod Sizes
+mod TextsLaw

@@ -1,5 +1,5 @@
 -- What a reload leaves of replies.
-use Rattle.std.proofs.Common.{◌≡◌, Bool, List, [], ◌∷◌, refl, ap, sym, subst, ◌∙◌}
+use Rattle.std.proofs.Common.{◌≡◌, Bool, refl, ap, sym, subst, ◌∙◌}
 use Rattle.std.proofs.lemmas.List.Elements.{All-head, All-tail}
 use Rattle.std.specs.Prelude.{Result, Ok, Err}
 use Rattle.doc_page_parts.specs.Refusals.{Gives}
@@ -14,9 +14,9 @@ use Rattle.doc_hub_answers.specs.Replies.{Renders}
 use Rattle.doc_hub_events.specs.Events.{Said, SaidSite}
 use Rattle.doc_hub_events.specs.declared.event.Event.{Event}
 use Rattle.doc_hub_events.specs.declared.event.Event.TheVariants as events
-use Rattle.doc_hub.specs.Runs.{Happened, Happens, HappensSite, Runs, nothing, first}
+use Rattle.doc_hub.specs.Runs.{Happens, HappensSite, nothing, first}
 use Rattle.doc_hub.specs.StepLaws.{Agree, AnswersAlike, StepsAlike}
-use Rattle.doc_hub.specs.Worlds.{World, store_of, with_store, world_moved, world_put, world_removed}
+use Rattle.doc_hub.specs.Worlds.{World, store_of, with_store, world_moved, world_put}
 use Rattle.doc_server_reload.specs.ReplyLaws.{HiddenReloadsChangeNoReply, IsSiteEdit, SeesTheSame, SiteEditsLeaveTheRest, TakesTheSame}
 
 -- ---- replies

@@ -2,3 +2,4 @@ pub mod Laws
 pub mod LeadSteps
 pub mod Leads
 pub mod ReplyLaws
+pub mod Texts

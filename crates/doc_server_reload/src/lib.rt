@@ -4,6 +4,7 @@
 #![tactic(auto)]
 
 mod alike;
+pub mod anew;
 pub mod laws;
 pub mod lead;
 pub mod making;
