@@ -1,5 +1,6 @@
 mod AlikeSteps
 mod BesideMedia
+mod CallLaw
 mod Examples
 mod Fits
 pub mod Itself

@@ -13,10 +13,10 @@ use Rattle.doc_server_reload.specs.Laws.{AReloadIsARestartBeside, ReloadIsAResta
 use Rattle.doc_server_reload.proofs.KeptSites.{all_kept}
 use Rattle.doc_server_reload.proofs.MadeLaw.{led_is_made, led_is_made_beside}
 
-err_not_ok : {X E : Type 0} (e : E) (x : X) → ◌≡◌ {A = Result X E} (Err e) (Ok x) → ⊥
+pub err_not_ok : {X E : Type 0} (e : E) (x : X) → ◌≡◌ {A = Result X E} (Err e) (Ok x) → ⊥
 err_not_ok e x is = cc
 
-ok_is : {X E : Type 0} (x y : X) → ◌≡◌ {A = Result X E} (Ok x) (Ok y) → x ≡ y
+pub ok_is : {X E : Type 0} (x y : X) → ◌≡◌ {A = Result X E} (Ok x) (Ok y) → x ≡ y
 ok_is x y is = cc
 
 -- ---- a site after records is a site

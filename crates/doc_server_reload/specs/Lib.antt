@@ -1,3 +1,4 @@
+pub mod CallLaws
 pub mod Laws
 pub mod LeadSteps
 pub mod Leads

@@ -1,5 +1,6 @@
 //! Laws of a reload. Each function does nothing, or cites laws that others stand on: its contract is the law.
 
+ghost use Rattle.doc_server_reload.specs.CallLaws.{ReloadsStayOfCalls};
 ghost use Rattle.doc_server_reload.specs.Laws.{AReloadIsARestartBeside, LedGivesTheSite, LedIsMade, LedIsMadeBeside, NothingLeadsToItself};
 ghost use Rattle.doc_server_reload.specs.Laws.{ReloadIsARestart, WhatIsMadeGivesTheSite};
 ghost use Rattle.doc_server_reload.specs.ReplyLaws.{HiddenReloadsChangeNoReply, SiteEditsLeaveTheRest};
@@ -60,4 +61,10 @@ pub fn a_hidden_reload_changes_no_reply()
 /// above calls a reload.
 pub fn edits_of_the_site_leave_the_rest()
     ensures { SiteEditsLeaveTheRest }
+{}
+
+/// Behind a reload, all of whose edits are made, the site is as calls make it: its aliases lead to its pages, and each page is for groups and
+/// has a text. It is so where the configuration's site is, and the journal's records are of edits as calls take them.
+pub fn a_reloaded_site_is_as_calls_make_it()
+    ensures { ReloadsStayOfCalls }
 {}
