@@ -107,7 +107,8 @@ module _ (media : Media) where
 pub reloads_stay_of_calls : ReloadsStayOfCalls
 reloads_stay_of_calls = record {
   made = made_kept;
-  restored = λ media config again records edits is said are done. records_kept media records 1 (unstamped config) again edits is said are done;
+  restored = λ media config again records edits is said are done.
+      records_kept media records 1 (unstamped config) again edits is said are done;
   reloaded = λ media old again after is_old is done.
       subst IsOfCalls (sym (what_is_made_gives_the_site media (unstamped old) after again.site is_old is.is_site done)) is;
 }

@@ -25,7 +25,8 @@ module _ (media : Media) where
   record_kept : (store next : StoreState) (n : ℕ) (found : Option (List SiteEdit)) → IsSite store.site
       → after_record media store n found ≡ Ok next → IsSite next.site
   record_kept store next n None is done = absurd (err_not_ok (faults.BadRecord n) next done)
-  record_kept store next n (Some edits) is done = by (all_made media store edits) (λ made_is. (all_kept media edits store next is made_is).0) done
+  record_kept store next n (Some edits) is done =
+      by (all_made media store edits) (λ made_is. (all_kept media edits store next is made_is).0) done
     where
       by : (found : Option StoreState) → (found ≡ Some next → IsSite next.site)
           → ok_or found (faults.Refused n (refused_from media 1 store edits)) ≡ Ok next → IsSite next.site
@@ -36,7 +37,8 @@ module _ (media : Media) where
       → restored_from media n store records ≡ Ok next → IsSite next.site
   records_kept [] n store next is done = subst (λ s. IsSite s.site) (ok_is store next done) is
   records_kept (text ∷ records) n store next is done =
-      by (after_record media store n (edits_of text)) (λ mid one. records_kept records (n + 1) mid next (record_kept store mid n (edits_of text) is one))
+      by (after_record media store n (edits_of text)) (λ mid one.
+      records_kept records (n + 1) mid next (record_kept store mid n (edits_of text) is one))
       refl done
     where
       by : (found : Result StoreState RestoreFault)

@@ -14,7 +14,7 @@ use Rattle.doc_hub_answers.specs.Replies.{Renders}
 use Rattle.doc_hub_events.specs.Events.{Said, SaidSite}
 use Rattle.doc_hub_events.specs.declared.event.Event.{Event}
 use Rattle.doc_hub_events.specs.declared.event.Event.TheVariants as events
-use Rattle.doc_hub.specs.Runs.{Happens, HappensSite, nothing, first}
+use Rattle.doc_hub.specs.Runs.{Happened, Happens, HappensSite, nothing, first}
 use Rattle.doc_hub.specs.StepLaws.{Agree, AnswersAlike, StepsAlike}
 use Rattle.doc_hub.specs.Worlds.{World, store_of, with_store, world_moved, world_put}
 use Rattle.doc_server_reload.specs.ReplyLaws.{HiddenReloadsChangeNoReply, IsSiteEdit, SeesTheSame, SiteEditsLeaveTheRest, TakesTheSame}
@@ -58,6 +58,8 @@ event_leaves render w v event edit said is h =
 pub site_edits_leave_the_rest : SiteEditsLeaveTheRest
 site_edits_leave_the_rest render w v run (nothing x) are = refl
 site_edits_leave_the_rest render w v run (first x y z event outcome rest leaves runs) are =
-    let one = All-head IsSiteEdit (record { world = x; event = event; outcome = outcome }) rest are in
+    let here : Happened = record { world = x; event = event; outcome = outcome } in
+    let one = All-head IsSiteEdit here rest are in
     let this = event_leaves render x y event one.0 leaves.0 one.1 leaves.1 in
-    site_edits_leave_the_rest render y z rest runs (All-tail IsSiteEdit (record { world = x; event = event; outcome = outcome }) rest are) ∙ ap (λ mid. with_store mid (store_of z)) this
+    site_edits_leave_the_rest render y z rest runs (All-tail IsSiteEdit here rest are)
+    ∙ ap (λ mid. with_store mid (store_of z)) this

@@ -66,6 +66,11 @@ digests_differ xs ys told is = clash true refl (told ∙ ap not (ap (bytes_eq xs
 
 -- ---- an open journal whose file was read
 
+-- bytes that are those that were loaded are those of the file
+pub as_loaded : (o : Option (List ℕ)) (loaded bytes : List ℕ) → bytes ≡ loaded → IfSome o (λ file. file ≡ loaded)
+    → IfSome o (λ file. file ≡ bytes)
+as_loaded o loaded bytes is read = subst (λ b. IfSome o (λ file. file ≡ b)) (sym is) read
+
 pub none_known : {X : Type 0} (o : Option X) → ((x : X) → o ≡ Some x → ⊥) → o ≡ None
 none_known None none = refl
 none_known (Some x) none = absurd (none x refl)

@@ -63,8 +63,8 @@ pub fn edits_of_the_site_leave_the_rest()
     ensures { SiteEditsLeaveTheRest }
 {}
 
-/// Behind a reload, all of whose edits are made, the site is as calls make it: its aliases lead to its pages, and each page is for groups and
-/// has a text. It is so where the configuration's site is, and the journal's records are of edits as calls take them.
+/// Behind a reload, all of whose edits are made, the site is as calls make it: its aliases lead to its pages, and each page is for groups
+/// and has a text. It is so where the configuration's site is, and the journal's records are of edits as calls take them.
 pub fn a_reloaded_site_is_as_calls_make_it()
     ensures { ReloadsStayOfCalls }
 {}
