@@ -1,5 +1,6 @@
 mod AlikeSteps
 mod BesideMedia
+mod CallLaw
 mod Examples
 mod Fits
 pub mod Itself
@@ -8,4 +9,6 @@ pub mod LeadLaw
 pub mod MadeLaw
 mod PushSteps
 pub mod ReloadLaw
+mod ReplyLaw
 mod Sizes
+mod TextsLaw

@@ -9,14 +9,14 @@ use Rattle.doc_media.specs.Media.{Media}
 use Rattle.doc_server_restore.specs.declared.fault.RestoreFault.{RestoreFault}
 use Rattle.doc_server_restore.specs.declared.fault.RestoreFault.TheVariants as faults
 use Rattle.doc_server_restore.specs.Restores.{after_record, all_made, edits_of, refused_from, restored_from, unstamped}
-use Rattle.doc_server_reload.specs.Laws.{ReloadIsARestart}
+use Rattle.doc_server_reload.specs.Laws.{AReloadIsARestartBeside, ReloadIsARestart}
 use Rattle.doc_server_reload.proofs.KeptSites.{all_kept}
-use Rattle.doc_server_reload.proofs.MadeLaw.{led_is_made}
+use Rattle.doc_server_reload.proofs.MadeLaw.{led_is_made, led_is_made_beside}
 
-err_not_ok : {X E : Type 0} (e : E) (x : X) → ◌≡◌ {A = Result X E} (Err e) (Ok x) → ⊥
+pub err_not_ok : {X E : Type 0} (e : E) (x : X) → ◌≡◌ {A = Result X E} (Err e) (Ok x) → ⊥
 err_not_ok e x is = cc
 
-ok_is : {X E : Type 0} (x y : X) → ◌≡◌ {A = Result X E} (Ok x) (Ok y) → x ≡ y
+pub ok_is : {X E : Type 0} (x y : X) → ◌≡◌ {A = Result X E} (Ok x) (Ok y) → x ≡ y
 ok_is x y is = cc
 
 -- ---- a site after records is a site
@@ -25,7 +25,8 @@ module _ (media : Media) where
   record_kept : (store next : StoreState) (n : ℕ) (found : Option (List SiteEdit)) → IsSite store.site
       → after_record media store n found ≡ Ok next → IsSite next.site
   record_kept store next n None is done = absurd (err_not_ok (faults.BadRecord n) next done)
-  record_kept store next n (Some edits) is done = by (all_made media store edits) (λ made_is. (all_kept media edits store next is made_is).0) done
+  record_kept store next n (Some edits) is done =
+      by (all_made media store edits) (λ made_is. (all_kept media edits store next is made_is).0) done
     where
       by : (found : Option StoreState) → (found ≡ Some next → IsSite next.site)
           → ok_or found (faults.Refused n (refused_from media 1 store edits)) ≡ Ok next → IsSite next.site
@@ -36,7 +37,8 @@ module _ (media : Media) where
       → restored_from media n store records ≡ Ok next → IsSite next.site
   records_kept [] n store next is done = subst (λ s. IsSite s.site) (ok_is store next done) is
   records_kept (text ∷ records) n store next is done =
-      by (after_record media store n (edits_of text)) (λ mid one. records_kept records (n + 1) mid next (record_kept store mid n (edits_of text) is one))
+      by (after_record media store n (edits_of text)) (λ mid one.
+      records_kept records (n + 1) mid next (record_kept store mid n (edits_of text) is one))
       refl done
     where
       by : (found : Result StoreState RestoreFault)
@@ -49,6 +51,10 @@ module _ (media : Media) where
           ]) (Ok next) → IsSite next.site
       by (Err fault) each one more = absurd (err_not_ok fault next more)
       by (Ok mid) each one more = each mid one more
+
+pub a_reload_is_a_restart_beside : AReloadIsARestartBeside
+a_reload_is_a_restart_beside media old config again records is_old is_config restored apart room =
+    led_is_made_beside media old again.site is_old (records_kept media records 1 (unstamped config) again is_config restored) apart room
 
 pub reload_is_a_restart : ReloadIsARestart
 reload_is_a_restart old config again records is_old is_config restored room =

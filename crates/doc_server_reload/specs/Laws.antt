@@ -47,3 +47,9 @@ abbrev pub ReloadIsARestart : Type 0
 ReloadIsARestart = (old config again : StoreState) (records : List (List ℕ)) → IsSite old.site → IsSite config.site
     → restored None (unstamped config) records ≡ Ok again → HasRoomToLead old again.site
     → (after : StoreState) × (all_made None (unstamped old) (led old.site again.site) ≡ Some after) × (after.site ≡ again.site)
+
+-- the same beside media, on none of whose paths what is restored has a name
+abbrev pub AReloadIsARestartBeside : Type 0
+AReloadIsARestartBeside = (media : Media) (old config again : StoreState) (records : List (List ℕ)) → IsSite old.site → IsSite config.site
+    → restored media (unstamped config) records ≡ Ok again → IsApart again.site media → HasRoomToLead old again.site
+    → (after : StoreState) × (all_made media (unstamped old) (led old.site again.site) ≡ Some after) × (after.site ≡ again.site)

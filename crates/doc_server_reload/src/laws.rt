@@ -1,7 +1,11 @@
-//! Laws of a reload. Each function does nothing: its contract is the law.
+//! Laws of a reload. Each function does nothing, or cites laws that others stand on: its contract is the law.
 
-ghost use Rattle.doc_server_reload.specs.Laws.{LedGivesTheSite, LedIsMade, LedIsMadeBeside, NothingLeadsToItself};
+ghost use Rattle.doc_server_reload.specs.CallLaws.{ReloadsStayOfCalls};
+ghost use Rattle.doc_server_reload.specs.Laws.{AReloadIsARestartBeside, LedGivesTheSite, LedIsMade, LedIsMadeBeside, NothingLeadsToItself};
 ghost use Rattle.doc_server_reload.specs.Laws.{ReloadIsARestart, WhatIsMadeGivesTheSite};
+ghost use Rattle.doc_server_reload.specs.ReplyLaws.{HiddenReloadsChangeNoReply, SiteEditsLeaveTheRest};
+
+use doc_hub::laws::{answers_are_noninterfering, steps_are_noninterfering};
 
 /// The edits that lead a site to another make it the other, aliases included: where both are sites.
 #[tactic(auto, using(crate::proofs::LeadLaw::led_gives_the_site))]
@@ -36,4 +40,31 @@ pub fn what_is_made_gives_the_site()
 /// within a store's limits, and stamps are left for the edits.
 pub fn a_reload_is_a_restart()
     ensures { ReloadIsARestart }
+{}
+
+/// So it is beside media, where what is restored has no page and no alias on the path of one.
+pub fn a_reload_is_a_restart_beside()
+    ensures { AReloadIsARestartBeside }
+{}
+
+/// A reload that changes nothing that a reader may see changes no reply of theirs: each request of theirs has the same answer, byte for
+/// byte and with the same edit, and so have steps of an open connection whose unread bytes begin with that request, where both are
+/// answered. Where the request is a PUT of an owner, a put is to be taken before and behind, or neither time.
+pub fn a_hidden_reload_changes_no_reply()
+    ensures { HiddenReloadsChangeNoReply }
+{
+    answers_are_noninterfering();
+    steps_are_noninterfering();
+}
+
+/// A run of edits of the site, accepted or refused, leaves a world with another store and with all else as it was: so it is what the law
+/// above calls a reload.
+pub fn edits_of_the_site_leave_the_rest()
+    ensures { SiteEditsLeaveTheRest }
+{}
+
+/// Behind a reload, all of whose edits are made, the site is as calls make it: its aliases lead to its pages, and each page is for groups
+/// and has a text. It is so where the configuration's site is, and the journal's records are of edits as calls take them.
+pub fn a_reloaded_site_is_as_calls_make_it()
+    ensures { ReloadsStayOfCalls }
 {}

@@ -1,9 +1,11 @@
 //! A reload: the edits that lead a site to another while it is served, from a configuration that was read anew.
 //!
-//! They give what a restart would give, and nothing is edited where nothing has changed.
+//! They give what a restart would give, and nothing is edited where nothing has changed. What the journal adds to the configuration is read
+//! anew from its file while the server runs.
 #![tactic(auto)]
 
 mod alike;
+pub mod anew;
 pub mod laws;
 pub mod lead;
 pub mod making;
