@@ -48,7 +48,7 @@ use doc_store::page::Page;
 use doc_store::reader::Reader;
 use doc_store::readers::{ReaderError, Readers, Set};
 use doc_store::site_edit::SiteEdit;
-use doc_store::store::{EditError, Put};
+use doc_store::store::{EditError, Put, Store};
 use std::marker::Model;
 
 /// The pages, the readers and the connections of a server. Contracts see the renderer beside the
@@ -299,6 +299,21 @@ impl<R: Renderer + Drop> Hub<R> {
         ensures { result ≡ map.len self.now.1.site.pages }
     {
         self.shelf.store().pages().len()
+    }
+
+    /// The pages as they stand, to be compared with others.
+    pub fn store(&self) -> &Store
+        ensures site { result.now.site ≡ self.now.1.site }
+        ensures puts { result.now.puts ≡ self.now.1.puts }
+    {
+        self.shelf.store()
+    }
+
+    /// The media that are served beside the pages.
+    pub fn media(&self) -> &Option<Media>
+        ensures { result.now ≡ self.now.1.media }
+    {
+        &self.media
     }
 
     /// The page of a path with its groups and its text, where one stands there.

@@ -34,9 +34,12 @@ removal_most = longest_removal + record_beside
 abbrev pub HasRoomToRemove : ℕ → World → Type 0
 HasRoomToRemove room w = (count_in w ≤ page_limit) × ((count_in w + 1) * removal_most ≤ room)
 
--- whether that is so
+-- whether that is so where so many pages stand
+abbrev pub takes_removals_of : ℕ → ℕ → Bool
+takes_removals_of room pages = nat_le pages page_limit && nat_le ((pages + 1) * removal_most) room
+
 abbrev pub takes_removals : ℕ → World → Bool
-takes_removals room w = nat_le (count_in w) page_limit && nat_le ((count_in w + 1) * removal_most) room
+takes_removals room w = takes_removals_of room (count_in w)
 
 -- the same, and the reserve while puts are taken
 abbrev pub HasRoomFor : ℕ → World → Type 0

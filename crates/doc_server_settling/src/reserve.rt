@@ -1,12 +1,13 @@
 //! The room that a journal keeps for records to come.
 
-ghost use Rattle.std.specs.Prelude.{◌≡◌, ◌≤◌, List, ℕ, true, nat_le, IfErr, IfOk, IfSome, OnErr, OnOk};
+ghost use Rattle.std.specs.Prelude.{◌≡◌, ◌≤◌, ◌+◌, ◌*◌, List, ℕ, true, nat_le, IfErr, IfOk, IfSome, OnErr, OnOk};
 ghost use Rattle.doc_hub.specs.Runs.{Happens};
 ghost use Rattle.doc_hub_events.specs.declared.event.Event.TheVariants as events;
 ghost use Rattle.doc_server_journal.specs.Devices.{AreBehind, LeavesOnly};
 ghost use Rattle.doc_server_journal.specs.Journals.{IsOpen};
 ghost use Rattle.doc_server_journal_records.specs.Readings.{ReadsAs};
-ghost use Rattle.doc_server_settling.specs.Reserves.{HasRoomFor, HasRoomToRemove, grown_room, reserve, takes_removals};
+ghost use Rattle.doc_store.specs.Store.{page_limit};
+ghost use Rattle.doc_server_settling.specs.Reserves.{HasRoomFor, HasRoomToRemove, grown_room, removal_most, reserve, takes_removals, takes_removals_of};
 
 use crate::fault::TurnFault;
 use doc_hub::hub::Hub;
@@ -28,13 +29,21 @@ const REMOVAL_MOST: usize = 808 + RECORD_BESIDE;
 
 /// Whether a journal has room for all that may come while no puts are taken: for the removal of each page, and for one record more. A
 /// journal that has lost the zeros behind its records lacks it where the disk is full, and isn't served: its turns would have no room.
-#[tactic(auto, unfolding(doc_store::specs::Store::page_limit, doc_server_listen::specs::Edits::longest_removal, doc_server_script::specs::LineLengths::path_limit))]
 pub fn has_room_to_remove<D: Device, R: Renderer + Drop>(journal: &Journal<D>, hub: &Hub<R>) -> bool
     ensures exact { result ≡ takes_removals journal.now.room hub.now.1 }
     ensures enough { result ≡ true → HasRoomToRemove journal.now.room hub.now.1 }
 {
-    let pages = hub.len();
-    pages <= PAGE_LIMIT && (pages + 1) * REMOVAL_MOST <= journal.room
+    has_room_for_removals(journal.room, hub.len())
+}
+
+/// The same of so much room, and of so many pages.
+#[tactic(auto, unfolding(doc_store::specs::Store::page_limit, doc_server_listen::specs::Edits::longest_removal, doc_server_script::specs::LineLengths::path_limit))]
+pub fn has_room_for_removals(room: usize, pages: usize) -> bool
+    ensures exact { result ≡ takes_removals_of room pages }
+    ensures enough { result ≡ true
+        → (pages ≤ page_limit) × ((pages + 1) * removal_most ≤ room) }
+{
+    pages <= PAGE_LIMIT && (pages + 1) * REMOVAL_MOST <= room
 }
 
 /// Sees to it that a journal keeps its reserve and the spare room, by so many more bytes at most, and has the hub take puts while it keeps
