@@ -61,7 +61,7 @@ edits_apart [] more are = (tt, are)
 edits_apart (edit ∷ edits) more are = let rest = edits_apart edits more are.1 in ((are.0, rest.0), rest.1)
 
 module _ (media : Media) where
-  made_kept : (store after : StoreState) (edits : List SiteEdit) → IsOfCalls store.site → AreEdits edits
+  pub made_kept : (store after : StoreState) (edits : List SiteEdit) → IsOfCalls store.site → AreEdits edits
       → all_made media store edits ≡ Some after → IsOfCalls after.site
   made_kept store after edits is are done =
       let kept = all_kept media edits store after is.is_site done in

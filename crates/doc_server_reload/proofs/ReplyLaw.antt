@@ -44,7 +44,7 @@ by_gives : {X E : Type 0} (memory : E) (w v : World) (given : World × Result X 
 by_gives {X = X} {E = E} memory w v given (Ok x) has gives = subst (λ (q : World × Result X E). HasStoreOf w q.0) gives has
 by_gives memory w v given (Err e) has gives = subst (HasStoreOf w) (sym gives.1) refl
 
-one_leaves : (w v : World) (edit : SiteEdit) (said : SaidSite edit) → HappensSite w edit v said → HasStoreOf w v
+pub one_leaves : (w v : World) (edit : SiteEdit) (said : SaidSite edit) → HappensSite w edit v said → HasStoreOf w v
 one_leaves w v (site_edits.Put path groups text) said h = by_gives edit_errors.Memory w v (world_put w path groups text) said refl h
 one_leaves w v (site_edits.Remove path) said h = subst (λ (q : World × Bool). HasStoreOf w q.0) h refl
 one_leaves w v (site_edits.Move from to) said h = by_gives move_errors.Memory w v (world_moved w from to) said refl h

@@ -4,8 +4,10 @@ ghost use Rattle.doc_server_reload.specs.CallLaws.{ReloadsStayOfCalls};
 ghost use Rattle.doc_server_reload.specs.Laws.{AReloadIsARestartBeside, LedGivesTheSite, LedIsMade, LedIsMadeBeside, NothingLeadsToItself};
 ghost use Rattle.doc_server_reload.specs.Laws.{ReloadIsARestart, WhatIsMadeGivesTheSite};
 ghost use Rattle.doc_server_reload.specs.ReplyLaws.{HiddenReloadsChangeNoReply, SiteEditsLeaveTheRest};
+ghost use Rattle.doc_server_reload.specs.RestoredLaws.{ReadEditsAreEdits, RestoredSitesAreOfCalls, WhatIsLedIsRestored};
 
 use doc_hub::laws::{answers_are_noninterfering, steps_are_noninterfering};
+pub use doc_server_kept::laws::{a_turn_is_restored, a_turn_leaves_a_site_of_calls};
 
 /// The edits that lead a site to another make it the other, aliases included: where both are sites.
 #[tactic(auto, using(crate::proofs::LeadLaw::led_gives_the_site))]
@@ -67,4 +69,21 @@ pub fn edits_of_the_site_leave_the_rest()
 /// and has a text. It is so where the configuration's site is, and the journal's records are of edits as calls take them.
 pub fn a_reloaded_site_is_as_calls_make_it()
     ensures { ReloadsStayOfCalls }
+{}
+
+/// Behind a reload, all of whose edits are made, the records restore the site that is served over the pages of the new configuration,
+/// however many puts made these, and it is as calls make it: where what they restored over the configuration is, and counts no more puts
+/// than the configuration and the hub did together.
+pub fn what_is_led_is_restored()
+    ensures { WhatIsLedIsRestored }
+{}
+
+/// What records are read as are edits of paths, groups and texts as calls take them: a line that gives no such edit is none.
+pub fn the_edits_that_are_read_are_of_calls()
+    ensures { ReadEditsAreEdits }
+{}
+
+/// So what records restore over a site as calls make it is such a site, whatever they say.
+pub fn what_is_restored_is_of_calls()
+    ensures { RestoredSitesAreOfCalls }
 {}

@@ -6,7 +6,9 @@
 
 mod alike;
 pub mod anew;
+pub mod beside;
 pub mod laws;
 pub mod lead;
+pub mod leading;
 pub mod making;
 mod pushing;
