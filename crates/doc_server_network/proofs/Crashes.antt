@@ -6,7 +6,7 @@ use Rattle.doc_server_journal.specs.Devices.{LeavesOnly}
 use Rattle.doc_server_journal.specs.Journals.{IsBeforeOrAfter}
 use Rattle.doc_server_journal.specs.declared.journal.Journal.{Journal}
 use Rattle.doc_server_journal_records.specs.Readings.{ReadsAs}
-use Rattle.doc_server_kept.specs.KeptTurns.{IsRestored}
+use Rattle.doc_server_reload.specs.KeptTurns.{IsRestored}
 use Rattle.doc_store.specs.Store.{StoreState}
 use Rattle.doc_server_network.specs.Crashes.{LeavesFiles, Restores, RestoresEither}
 

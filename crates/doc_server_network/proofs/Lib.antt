@@ -3,6 +3,7 @@ pub mod MemorySteps
 pub mod Passing
 mod QuietEvents
 mod Records
+mod Reloads
 mod Rooms
 mod Saving
 mod Settling

@@ -12,7 +12,7 @@ use Rattle.doc_server_restore.specs.declared.fault.RestoreFault.TheVariants as f
 use Rattle.doc_server_restore.specs.Restores.{after_record, all_made, edits_of, made, refused_from, restored_from, unstamped}
 use Rattle.doc_server_restore.proofs.LineLaws.{lines_are_read}
 use Rattle.doc_server_restore.proofs.RecordSteps.{as_onto, onto, record_restored}
-use Rattle.doc_server_kept.specs.KeptTurns.{IsRestored}
+use Rattle.doc_server_reload.specs.KeptTurns.{IsRestored}
 use Rattle.doc_server_network.proofs.Texts.{edits_behind, none_some, some_is}
 
 err_ok : {X E : Type 0} (e : E) (x : X) → ◌≡◌ {A = Result X E} (Err e) (Ok x) → ⊥

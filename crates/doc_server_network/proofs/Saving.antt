@@ -17,7 +17,7 @@ use Rattle.doc_hub_events.specs.declared.event.Step.{Step}
 use Rattle.doc_hub_events.specs.declared.refusal.StepError.{StepError}
 use Rattle.doc_server_journal.specs.Journals.{record_beside}
 use Rattle.doc_server_journal.specs.declared.journal.Journal.{Journal}
-use Rattle.doc_server_kept.specs.KeptTurns.{IsOfCalls, IsOfServer, IsRestored, TurnIsRestored, TurnStaysOfCalls}
+use Rattle.doc_server_reload.specs.KeptTurns.{IsOfCalls, IsOfServer, IsRestored, TurnIsRestored, TurnStaysOfCalls}
 use Rattle.doc_server_restore.specs.Restores.{restored, unstamped}
 use Rattle.doc_server_listen.proofs.Counting.{edits_are_counted}
 use Rattle.doc_server_listen.specs.Counting.{Counts, IsOfPeer, count_in}

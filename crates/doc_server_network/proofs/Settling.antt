@@ -8,7 +8,7 @@ use Rattle.doc_server_journal.specs.Journals.{IsBeforeOrAfter, IsOpen, record_be
 use Rattle.doc_server_journal.specs.declared.journal.Journal.{Journal}
 use Rattle.doc_server_journal_records.specs.Readings.{ReadsAs}
 use Rattle.doc_server_journal_records.specs.Records.{text_limit}
-use Rattle.doc_server_kept.specs.KeptTurns.{IsOfCalls, IsRestored}
+use Rattle.doc_server_reload.specs.KeptTurns.{IsOfCalls, IsRestored}
 use Rattle.doc_server_listen.specs.Counting.{count_in}
 use Rattle.doc_server_listen.specs.Edits.{Kept}
 use Rattle.doc_server_settling.specs.Reserves.{HasRoomFor, HasRoomToRemove, removal_most}
@@ -33,7 +33,7 @@ no_lines_wait config texts room w is limit enough = record {
   further = λ off. first_lines room w limit enough;
 }
 
-within : (a b : ℕ) → min a b ≤ a
+pub within : (a b : ℕ) → min a b ≤ a
 within a b = omega arith
 
 -- ---- whether lines are empty

@@ -4,7 +4,7 @@ use Rattle.doc_hub.specs.Worlds.{World}
 use Rattle.doc_server_journal.specs.Devices.{AreBehind, LeavesOnly}
 use Rattle.doc_server_journal.specs.declared.journal.Journal.{Journal}
 use Rattle.doc_server_journal_records.specs.Readings.{ReadsAs}
-use Rattle.doc_server_kept.specs.KeptTurns.{IsRestored}
+use Rattle.doc_server_reload.specs.KeptTurns.{IsRestored}
 use Rattle.doc_store.specs.Store.{StoreState}
 
 -- a file whose records, made again over the configuration's pages, give the site of a world

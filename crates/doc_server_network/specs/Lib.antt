@@ -2,6 +2,7 @@ pub mod Crashes
 pub mod Memories
 pub mod Networks
 pub mod Readers
+pub mod Reloads
 pub mod Saved
 -- words of these definitions, for the crates above
-pub use Rattle.doc_server_kept.specs.KeptTurns
+pub use Rattle.doc_server_reload.specs.KeptTurns

@@ -10,7 +10,7 @@ use Rattle.doc_server_network.specs.declared.came.Came.TheVariants.{Bytes, Nothi
 use Rattle.doc_server_network.specs.declared.guest.Guest.{Guest}
 use Rattle.doc_server_network.specs.declared.guest.Guest.TheVariants as guests
 use Rattle.doc_server_network.specs.declared.line.Line.{Line}
-use Rattle.doc_server_network.specs.declared.memory_network.MemoryNetwork.{MemoryNetwork}
+pub use Rattle.doc_server_network.specs.declared.memory_network.MemoryNetwork.{MemoryNetwork}
 use Rattle.doc_server_network.specs.declared.net_fault.NetFault.{NetFault}
 use Rattle.doc_server_network.specs.declared.script.Script.{Script}
 use Rattle.doc_server_network.specs.declared.told.Told.{Told}

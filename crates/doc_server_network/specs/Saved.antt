@@ -8,7 +8,7 @@ use Rattle.doc_hub_events.specs.declared.event.Event.TheVariants as events
 use Rattle.doc_server_journal.specs.Journals.{IsOpen, record_beside}
 use Rattle.doc_server_journal.specs.declared.journal.Journal.{Journal}
 use Rattle.doc_server_journal_records.specs.Records.{digest_behind, text_limit, time_of}
-use Rattle.doc_server_kept.specs.KeptTurns.{IsOfCalls, IsRestored}
+use Rattle.doc_server_reload.specs.KeptTurns.{IsOfCalls, IsRestored}
 use Rattle.doc_server_listen.specs.Counting.{count_in}
 use Rattle.doc_server_listen.specs.Edits.{Kept, has_room, longest_removal}
 use Rattle.doc_server_network.specs.Crashes.{OfBoth}

@@ -1,0 +1,141 @@
+//! The steps of a reload: the journal's records are read anew and made again on other pages beside, and the hub is led there.
+
+ghost use Rattle.std.specs.Prelude.{◌≡◌, ◌≤◌, ◌+◌, List as Seq, ℕ, Some, true, IfErr, IfOk, IfSome, OnOk};
+ghost use Rattle.std.specs.FinMap as map;
+ghost use Rattle.doc_hub.specs.Worlds.{store_of};
+ghost use Rattle.doc_server_journal.specs.Devices.{LeavesOnly};
+ghost use Rattle.doc_server_journal.specs.Journals.{IsOpen};
+ghost use Rattle.doc_server_network.specs.Crashes.{OfBoth};
+ghost use Rattle.doc_server_network.specs.Reloads.{AreTexts, IfCannotWrite, IfRefused, IsJustRead, IsOfStart, IsStoppedBy, IsUnread};
+ghost use Rattle.doc_server_network.specs.Reloads.{RemovalsFit, UnlessEnds, has_room_for, is_counted};
+ghost use Rattle.doc_server_network.specs.Saved.{HasFailed};
+ghost use Rattle.doc_server_reload.specs.Leading.{LeadsByEdits};
+ghost use Rattle.doc_server_reload.specs.Leads.{led};
+ghost use Rattle.doc_server_restore.specs.Restores.{all_made};
+ghost use Rattle.doc_store_readers.specs.Sites.{IsSite};
+
+use crate::reload_fault::{Refusal, ReloadFault};
+use doc_hub::hub::Hub;
+use doc_page::renderer::Renderer;
+use doc_page_parts::bytes::Bytes;
+use doc_page_parts::failure::Memory;
+use doc_page_parts::heap::{Heap, Vec};
+use doc_page_parts::list::List;
+use doc_server_journal::device::Device;
+use doc_server_journal::journal::Journal;
+use doc_server_reload::anew::texts_of_journal;
+use doc_server_reload::beside::restored_beside;
+use doc_server_reload::lead::lead;
+use doc_server_reload::leading::lead_hub;
+use doc_server_settling::fault::TurnFault;
+use doc_server_settling::reserve::has_room_for_removals;
+use doc_store::site_edit::SiteEdit;
+use doc_store::store::Store;
+
+/// The texts of the records of an open journal, read anew from its file; without a journal there are none.
+pub fn texts_anew<D: Device>(
+    heap: Heap,
+    journal: &mut Option<Journal<D>>,
+) -> Result<List<Bytes>, ReloadFault>
+    requires open { IfSome journal.old (λ j. (texts : Seq (Seq ℕ))
+        × IsOpen D.seen D.may_leave D.failed D.stale j texts) }
+    ensures read { IfOk result
+        (λ texts. AreTexts D.seen D.may_leave D.failed D.stale journal.new texts) }
+    ensures same { IsJustRead journal.old journal.new }
+    ensures open { UnlessEnds result (OfBoth (λ before behind. (texts : Seq (Seq ℕ))
+        → IsOpen D.seen D.may_leave D.failed D.stale before texts
+        → IsOpen D.seen D.may_leave D.failed D.stale behind texts) journal.old journal.new) }
+    ensures any_moment { OfBoth (λ before behind. LeavesOnly D.moment D.left_since before.device
+        behind.device (D.may_leave before.device)) journal.old journal.new }
+    ensures refused { IfRefused result
+        (IsUnread D.seen D.may_leave D.failed D.stale journal.new) }
+    ensures failed { IfCannotWrite result (HasFailed D.failed journal.new) }
+{
+    let Some(journal) = journal else {
+        return Ok(List::new(Vec::new(heap)));
+    };
+    Ok(texts_of_journal(heap, journal, usize::MAX)?)
+}
+
+/// The pages that a start over a configuration would serve now, with the edits of these records, as far as a hub may have them.
+pub fn pages_of_start<R: Renderer + Drop>(
+    heap: Heap,
+    hub: &Hub<R>,
+    room: Option<usize>,
+    config: Store,
+    texts: &[Bytes],
+) -> Result<Store, ReloadFault>
+    ensures start { IfOk result
+        (λ again. IsOfStart config hub.now.1.media texts.now again) }
+    ensures room { IfOk result (λ again. RemovalsFit room (map.len again.site.pages)) }
+    ensures counted { IfOk result
+        (λ again. again.puts ≤ config.puts + hub.now.1.puts) }
+    ensures sites { IfOk result (λ again. IsSite again.site × IsSite hub.now.1.site) }
+    ensures refused { IfErr result (λ fault. (refusal : Refusal)
+        × (fault ≡ ReloadFault.Refused refusal)
+        × IsStoppedBy config hub.now.1 room texts.now refusal) }
+{
+    let counted = config.next_stamp();
+    let again = restored_beside(heap, config, hub.media(), texts)?;
+    if !has_room_for(room, page_count(&again)) {
+        return Err(ReloadFault::Refused(Refusal::Full));
+    }
+    if !is_counted(again.next_stamp(), counted, hub.store().next_stamp()) {
+        return Err(ReloadFault::Refused(Refusal::Other));
+    }
+    Ok(again)
+}
+
+/// How many pages a store has.
+fn page_count(store: &Store) -> usize
+    ensures { result ≡ map.len store.now.site.pages }
+{
+    store.pages().len()
+}
+
+/// Whether a journal with so much room takes the removal of so many pages.
+fn has_room_for(room: Option<usize>, pages: usize) -> bool
+    ensures exact { result ≡ has_room_for room pages }
+    ensures enough { result ≡ true → RemovalsFit room pages }
+{
+    match room {
+        Some(room) => has_room_for_removals(room, pages),
+        None => true,
+    }
+}
+
+/// Whether a hub has counted the puts that records make, by the next stamps of what they make, of the configuration's pages and of its own.
+fn is_counted(again: Option<u64>, config: Option<u64>, hub: Option<u64>) -> bool
+    ensures { result ≡ is_counted again config hub }
+{
+    match (again, config, hub) {
+        (Some(again), Some(config), Some(hub)) => again.saturating_sub(config) <= hub,
+        _ => false,
+    }
+}
+
+/// Leads a hub to the site of a store, and answers by which edits. Where memory is lacking before the first of them it is refused; behind
+/// that the server ends.
+pub fn lead_there<R: Renderer + Drop>(
+    heap: Heap,
+    hub: &mut Hub<R>,
+    again: &Store,
+) -> Result<List<SiteEdit>, ReloadFault>
+    ensures edits { IfOk result (λ edits. edits ≡ led hub.old.1.site again.now.site) }
+    ensures leads { LeadsByEdits (R.page hub.old.0) (led hub.old.1.site again.now.site)
+        hub.old.1 hub.new.1 }
+    ensures made { OnOk result (all_made hub.old.1.media (store_of hub.old.1)
+        (led hub.old.1.site again.now.site) ≡ Some (store_of hub.new.1)) }
+    ensures refused { IfRefused result (λ refusal.
+        (refusal ≡ Refusal.Memory) × (hub.new ≡ hub.old)) }
+    ensures ends { IfErr result (λ fault.
+        fault ≡ ReloadFault.Ends TurnFault.CannotWrite → ⊥) }
+    ensures same { R.page hub.new.0 ≡ R.page hub.old.0 }
+{
+    let edits = lead(heap, hub.store(), again)?;
+    match lead_hub(hub, edits.get()) {
+        Ok(true) => Ok(edits),
+        Ok(false) => Err(ReloadFault::Ends(TurnFault::Memory)),
+        Err(Memory) => Err(ReloadFault::Ends(TurnFault::Memory)),
+    }
+}
