@@ -11,39 +11,50 @@ use doc_page_parts::heap::Heap;
 use doc_people::settings::Browse;
 use doc_store::readers::ReadersError;
 use doc_store_readers::tables::document_of;
-use thiserror::Error;
+use std::error::Error;
+use std::fmt;
 use toml::Table;
 
 /// Why a text says nothing of the pages for people that `listen` could go by.
-#[derive(Clone, Copy, Debug, Error)]
+#[derive(Clone, Copy, Debug)]
 pub enum BrowseError {
     /// The text is no TOML document.
-    #[error("no TOML")]
     BadToml,
     /// `browse` is no table, or has a key other than `title`, `language`, `home`, `guest`, `login` and `editing`.
-    #[error("`browse` is bad")]
     BadBrowse,
     /// `title` is no string, or none that a site can have as its title.
-    #[error("`title` is bad")]
     BadTitle,
     /// `language` is no string, or none of the form of a language.
-    #[error("`language` is bad")]
     BadLanguage,
     /// `home` is no string, or none that is a path.
-    #[error("`home` is bad")]
     BadHome,
     /// `guest` is no array of names of groups, or has too many.
-    #[error("`guest` is bad")]
     BadGuest,
     /// `login` is anything but the string `basic`.
-    #[error("`login` is bad")]
     BadLogin,
     /// `editing` is no boolean.
-    #[error("`editing` is bad")]
     BadEditing,
-    #[error("{}", Memory)]
     Memory,
 }
+
+impl fmt::Display for BrowseError {
+    fn fmt<W: fmt::Write>(&self, f: &mut fmt::Formatter<W>) -> fmt::Result {
+        let text = match self {
+            BrowseError::BadToml => "no TOML",
+            BrowseError::BadBrowse => "`browse` is bad",
+            BrowseError::BadTitle => "`title` is bad",
+            BrowseError::BadLanguage => "`language` is bad",
+            BrowseError::BadHome => "`home` is bad",
+            BrowseError::BadGuest => "`guest` is bad",
+            BrowseError::BadLogin => "`login` is bad",
+            BrowseError::BadEditing => "`editing` is bad",
+            BrowseError::Memory => return fmt::Display::fmt(&Memory, f),
+        };
+        f.write_str(text)
+    }
+}
+
+impl Error for BrowseError {}
 
 impl From<Memory> for BrowseError {
     ghost use Rattle.std.specs.Prelude.{◌≡◌};

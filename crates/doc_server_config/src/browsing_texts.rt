@@ -79,7 +79,7 @@ fn ends_with_space(text: &str) -> bool
 fn has_good_parts(text: &str) -> bool
     ensures { result ≡ list_all is_subtag (subtags text.now) }
 {
-    text.split('-').all(|part| is_subtag(part))
+    text.split('-').all(is_subtag)
 }
 
 fn is_subtag(part: &str) -> bool

@@ -18,27 +18,38 @@ use doc_people::settings::Browse;
 use doc_store::readers::{Readers, ReadersError};
 use doc_store_readers::documents::readers_of_document;
 use doc_store_readers::tables::{document_of, tables_at};
-use thiserror::Error;
+use std::error::Error;
+use std::fmt;
 use toml::Table;
 
 /// Why a text is no configuration. Pages are counted from 1.
-#[derive(Clone, Copy, Debug, Error)]
+#[derive(Clone, Copy, Debug)]
 pub enum ConfigError {
     /// The text is no TOML document.
-    #[error("no TOML")]
     BadToml,
     /// The readers are refused, but never for want of memory.
-    #[error("{0}")]
     BadReaders(ReadersError),
     /// `keep_alive`, `cache`, `entities`, `markdown` or `page` holds what it may not.
-    #[error("a setting is bad")]
     BadSetting,
     /// The first page without a path, without a source or with both, or with a key of a wrong value.
-    #[error("page {0} is bad")]
     BadPage(usize),
-    #[error("{}", Memory)]
     Memory,
 }
+
+impl fmt::Display for ConfigError {
+    fn fmt<W: fmt::Write>(&self, f: &mut fmt::Formatter<W>) -> fmt::Result {
+        let text = match self {
+            ConfigError::BadToml => "no TOML",
+            ConfigError::BadReaders(e) => return fmt::Display::fmt(e, f),
+            ConfigError::BadSetting => "a setting is bad",
+            ConfigError::BadPage(page) => return write!(f, "page {page} is bad"),
+            ConfigError::Memory => return fmt::Display::fmt(&Memory, f),
+        };
+        f.write_str(text)
+    }
+}
+
+impl Error for ConfigError {}
 
 impl From<Memory> for ConfigError {
     ghost use Rattle.std.specs.Prelude.{◌≡◌};

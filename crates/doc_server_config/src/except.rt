@@ -69,7 +69,7 @@ pub(crate) fn copies_of(heap: Heap, names: &[&str]) -> Result<List<Text>, Memory
 fn is_folder_name(name: &str) -> bool
     ensures { result ≡ is_folder_name name.now }
 {
-    name.split('/').all(|part| is_segment(part))
+    name.split('/').all(is_segment)
 }
 
 fn is_segment(part: &str) -> bool

@@ -100,7 +100,7 @@ pub(crate) fn is_page_name(name: &str) -> bool
 fn is_shown(name: &str) -> bool
     ensures { result ≡ is_shown name.now }
 {
-    name.split('/').all(|part| is_shown_part(part))
+    name.split('/').all(is_shown_part)
 }
 
 fn is_shown_part(part: &str) -> bool

@@ -142,8 +142,13 @@ fn taken_file<R: AllocGlobal + Files + Clone + Drop>(
         (λ found. IfErr found (MaySay (path_in folder.now file.now))) }
 {
     match path_in(heap, folder, file)? {
-        Ok(Some(path)) if is_page_name(file) => page_at(rt, heap, folder, path, file, taken),
-        Ok(Some(path)) => medium_at(rt, heap, folder, path, file, taken),
+        Ok(Some(path)) => {
+            if is_page_name(file) {
+                page_at(rt, heap, folder, path, file, taken)
+            } else {
+                medium_at(rt, heap, folder, path, file, taken)
+            }
+        }
         Ok(None) => Ok(Ok(None)),
         Err(reason) => Ok(Err(reason)),
     }
@@ -179,16 +184,35 @@ fn page_at<R: AllocGlobal + Files + Clone + Drop>(
     ensures reason { IfOk result
         (λ found. IfErr found (λ reason. is_of_path reason ≡ false)) }
 {
+    let text = match take_text(rt, heap, folder, &path, file, taken)? {
+        Ok(text) => text,
+        Err(reason) => return Ok(Err(reason)),
+    };
+    let groups = folder.groups.copy(heap)?;
+    Ok(Ok(Some(FolderFile::Page(FolderPage { path, groups, text }))))
+}
+
+/// The text of a page under this path, once it is taken, or why it isn't.
+fn take_text<R: AllocGlobal + Files>(
+    rt: &R,
+    heap: Heap,
+    folder: &Folder,
+    path: &Path,
+    file: &str,
+    taken: &mut Taken,
+) -> Result<Result<Text, Reason>, Memory>
+    ensures text { IfOk result (λ read. IfOk read (λ text. length text ≤ text_limit)) }
+    ensures reason { IfOk result (λ read. IfErr read (λ reason. is_of_path reason ≡ false)) }
+{
     let name = joined(heap, folder.file.get(), file)?;
     let text = match read_text(rt, heap, name.as_str())? {
         Ok(text) => text,
         Err(reason) => return Ok(Err(reason)),
     };
-    if let Err(reason) = taken.take_page(folder.rules.is_nfc, &path, name.as_str())? {
+    if let Err(reason) = taken.take_page(folder.rules.is_nfc, path, name.as_str())? {
         return Ok(Err(reason));
     }
-    let groups = folder.groups.copy(heap)?;
-    Ok(Ok(Some(FolderFile::Page(FolderPage { path, groups, text }))))
+    Ok(Ok(text))
 }
 
 /// The medium in a file, which stands under this path. Its name has one of the folder's extensions, and so names a kind.
@@ -210,21 +234,40 @@ fn medium_at<R: AllocGlobal + Files + Clone + Drop>(
     let Some(kind) = MediaKind::of(&path) else {
         return Ok(Ok(None));
     };
-    let name = joined(heap, folder.file.get(), file)?;
-    let bytes = match read_medium(rt, heap, name.as_str())? {
+    let bytes = match take_bytes(rt, heap, folder, &path, file, taken)? {
         Ok(bytes) => bytes,
         Err(reason) => return Ok(Err(reason)),
     };
-    let count = bytes.get().len();
-    if let Err(reason) = taken.take_medium(folder.rules.is_nfc, &path, name.as_str(), count)? {
-        return Ok(Err(reason));
-    }
     Ok(Ok(Some(FolderFile::Medium(FolderMedium {
         path,
         groups: folder.groups.copy(heap)?,
         kind,
         bytes,
     }))))
+}
+
+/// The bytes of a medium under this path, once it is taken, or why it isn't.
+fn take_bytes<R: AllocGlobal + Files>(
+    rt: &R,
+    heap: Heap,
+    folder: &Folder,
+    path: &Path,
+    file: &str,
+    taken: &mut Taken,
+) -> Result<Result<Bytes, Reason>, Memory>
+    ensures bytes { IfOk result (λ read. IfOk read (λ bytes. length bytes ≤ medium_limit)) }
+    ensures reason { IfOk result (λ read. IfErr read (λ reason. is_of_path reason ≡ false)) }
+{
+    let name = joined(heap, folder.file.get(), file)?;
+    let bytes = match read_medium(rt, heap, name.as_str())? {
+        Ok(bytes) => bytes,
+        Err(reason) => return Ok(Err(reason)),
+    };
+    let count = bytes.get().len();
+    if let Err(reason) = taken.take_medium(folder.rules.is_nfc, path, name.as_str(), count)? {
+        return Ok(Err(reason));
+    }
+    Ok(Ok(bytes))
 }
 
 /// The bytes of a file, or why it has none that a medium may have.

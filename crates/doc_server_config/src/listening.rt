@@ -12,46 +12,57 @@ use doc_page_parts::heap::Heap;
 use doc_page_parts::list::List;
 use doc_store::readers::ReadersError;
 use doc_store_readers::tables::{document_of, tables_at};
-use thiserror::Error;
+use std::error::Error;
+use std::fmt;
 use toml::Table;
 
 /// Why a text says nothing that `listen` could go by. Folders and readers are counted from 1.
-#[derive(Clone, Copy, Debug, Error)]
+#[derive(Clone, Copy, Debug)]
 pub enum ListeningError {
     /// The text is no TOML document.
-    #[error("no TOML")]
     BadToml,
     /// `listen` is no table, or has a key other than `connections`, `idle_seconds`, `media_bytes`, `stranger_seconds` and
     /// `request_seconds`.
-    #[error("`listen` is bad")]
     BadListen,
     /// `connections` is no integer from 1 to 65,535.
-    #[error("`connections` is bad")]
     BadConnections,
     /// `idle_seconds` is no integer from 1 to 86,400.
-    #[error("`idle_seconds` is bad")]
     BadIdleSeconds,
     /// `media_bytes` is no integer from 1 to 1,073,741,824.
-    #[error("`media_bytes` is bad")]
     BadMediaBytes,
     /// `stranger_seconds` is no integer from 1 to 86,400.
-    #[error("`stranger_seconds` is bad")]
     BadStrangerSeconds,
     /// `request_seconds` is no integer from 1 to 86,400.
-    #[error("`request_seconds` is bad")]
     BadRequestSeconds,
     /// `folder` is no array of tables.
-    #[error("`folder` is bad")]
     BadFolders,
     /// The first folder that is none, and its first fault.
-    #[error("folder {0}: {1}")]
     BadFolder(usize, FolderFault),
     /// The first reader whose `name` is no string of 1 to 32 of a-z, 0-9, `-`, `_`, `.` and `@`.
-    #[error("reader {0}: `name` is bad")]
     BadName(usize),
-    #[error("{}", Memory)]
     Memory,
 }
+
+impl fmt::Display for ListeningError {
+    fn fmt<W: fmt::Write>(&self, f: &mut fmt::Formatter<W>) -> fmt::Result {
+        let text = match self {
+            ListeningError::BadToml => "no TOML",
+            ListeningError::BadListen => "`listen` is bad",
+            ListeningError::BadConnections => "`connections` is bad",
+            ListeningError::BadIdleSeconds => "`idle_seconds` is bad",
+            ListeningError::BadMediaBytes => "`media_bytes` is bad",
+            ListeningError::BadStrangerSeconds => "`stranger_seconds` is bad",
+            ListeningError::BadRequestSeconds => "`request_seconds` is bad",
+            ListeningError::BadFolders => "`folder` is bad",
+            ListeningError::BadFolder(row, fault) => return write!(f, "folder {row}: {fault}"),
+            ListeningError::BadName(row) => return write!(f, "reader {row}: `name` is bad"),
+            ListeningError::Memory => return fmt::Display::fmt(&Memory, f),
+        };
+        f.write_str(text)
+    }
+}
+
+impl Error for ListeningError {}
 
 impl From<Memory> for ListeningError {
     ghost use Rattle.std.specs.Prelude.{◌≡◌};

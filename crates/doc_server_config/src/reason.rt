@@ -8,52 +8,74 @@ ghost use Rattle.doc_server_config.specs.Reasons.{is_of_path, is_plain_char, pat
 
 use crate::browsing_texts::has_no_controls;
 use doc_page_parts::text::Text;
+use std::error::Error;
+use std::fmt;
 use std::io::ErrorKind;
-use thiserror::Error;
 
 /// How many parts a path has at most.
 const PARTS: usize = 16;
 
 /// Why a file of a folder is bad: the first of these that holds.
-#[derive(Debug, Drop, Error)]
+#[derive(Debug, Drop)]
 pub enum Reason {
-    /// Its path has one of these.
-    #[error("a path has no \\, %, ? or #")]
+    /// Its path has a `\`, `%`, `?` or `#`.
     BadCharacter,
-    #[error("a path has no control character")]
+    /// Its path has a control character.
     Control,
-    #[error("a path has at most 16 parts")]
+    /// Its path has more than 16 parts.
     ManyParts,
-    #[error("a path has at most 200 bytes")]
+    /// Its path has more than 200 bytes.
     LongPath,
-    #[error("no such file")]
+    /// There is no such file.
     Absent,
-    #[error("permission denied")]
+    /// The system doesn't allow it to be read.
     Denied,
-    #[error("a folder")]
+    /// It is a folder.
     IsFolder,
     /// The system doesn't give it, for some other reason.
-    #[error("cannot be read")]
     Unread,
-    #[error("more than 1048576 bytes")]
+    /// It is a page of more than 1,048,576 bytes.
     LongPage,
-    #[error("not UTF-8")]
+    /// It is a page, and no UTF-8.
     NoText,
-    #[error("more than 8388608 bytes")]
+    /// It is a medium of more than 8,388,608 bytes.
     LongMedium,
     /// A file of the folder before it has the same path: the one of this name.
-    #[error("its path is that of {}", .0.get())]
     PathOf(Text),
     /// The site has no room for another page.
-    #[error("more than 10000 pages")]
     ManyPages,
     /// The site has no room for another medium.
-    #[error("more than 10000 media")]
     ManyMedia,
     /// With it the media of the site would have more bytes together than they may.
-    #[error("media of more than {0} bytes together")]
     MuchMedia(usize),
 }
+
+impl fmt::Display for Reason {
+    fn fmt<W: fmt::Write>(&self, f: &mut fmt::Formatter<W>) -> fmt::Result {
+        let text = match self {
+            Reason::BadCharacter => "a path has no \\, %, ? or #",
+            Reason::Control => "a path has no control character",
+            Reason::ManyParts => "a path has at most 16 parts",
+            Reason::LongPath => "a path has at most 200 bytes",
+            Reason::Absent => "no such file",
+            Reason::Denied => "permission denied",
+            Reason::IsFolder => "a folder",
+            Reason::Unread => "cannot be read",
+            Reason::LongPage => "more than 1048576 bytes",
+            Reason::NoText => "not UTF-8",
+            Reason::LongMedium => "more than 8388608 bytes",
+            Reason::PathOf(first) => return write!(f, "its path is that of {}", first.get()),
+            Reason::ManyPages => "more than 10000 pages",
+            Reason::ManyMedia => "more than 10000 media",
+            Reason::MuchMedia(bytes) => {
+                return write!(f, "media of more than {bytes} bytes together");
+            }
+        };
+        f.write_str(text)
+    }
+}
+
+impl Error for Reason {}
 
 /// Why a text is no path, where each of its parts could stand in one.
 pub(crate) fn path_reason(text: &str) -> Reason
@@ -74,7 +96,7 @@ pub(crate) fn path_reason(text: &str) -> Reason
 fn has_plain_characters(text: &str) -> bool
     ensures { result ≡ list_all is_plain_char (chars text.now) }
 {
-    text.chars().all(|c| is_plain_char(c))
+    text.chars().all(is_plain_char)
 }
 
 fn is_plain_char(c: char) -> bool
