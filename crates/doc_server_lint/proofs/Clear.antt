@@ -18,18 +18,18 @@ use Rattle.doc_server_config.specs.Excepted.{are_folder_names, except_at, good_n
 use Rattle.doc_server_config.specs.Keys.{has_only, is_one_of, keys_in}
 use Rattle.doc_server_config.specs.MediaNames.{media_at}
 use Rattle.doc_server_config.specs.Settings.{cache_at, capacity_in, entities_at}
-use Rattle.doc_server_lint.specs.declared.place.Place.{Place}
-use Rattle.doc_server_lint.specs.declared.rule.Form.{Form}
-use Rattle.doc_server_lint.specs.declared.rule.Form.TheVariants as form
-use Rattle.doc_server_lint.specs.declared.rule.Rule.TheVariants as rule
-use Rattle.doc_server_lint.specs.declared.what.What.{What}
-use Rattle.doc_server_lint.specs.declared.what.What.TheVariants.{Unknown}
-use Rattle.doc_server_lint.specs.Faults.{fault_of_key, faults_of_closed, faults_of_keys, finding_of}
+use Rattle.doc_server_lint_faults.specs.declared.place.Place.{Place}
+use Rattle.doc_server_lint_faults.specs.declared.rule.Form.{Form}
+use Rattle.doc_server_lint_faults.specs.declared.rule.Form.TheVariants as form
+use Rattle.doc_server_lint_faults.specs.declared.rule.Rule.TheVariants as rule
+use Rattle.doc_server_lint_faults.specs.declared.what.What.{What}
+use Rattle.doc_server_lint_faults.specs.declared.what.What.TheVariants.{Unknown}
+use Rattle.doc_server_lint_faults.specs.TableFaults.{fault_of_key, faults_of_closed, faults_of_keys, finding_of}
 use Rattle.doc_server_lint.specs.Laws.{is_clear, is_of_site, is_refusal}
-use Rattle.doc_server_lint.specs.Rules.{Keys, names_of}
-use Rattle.doc_server_lint.specs.Unknown.{meant, unknown_in, unknown_in_table, unknown_key}
-use Rattle.doc_server_lint.specs.Values.{except_fault, form_told, group_told, groups_fault, is_form, key_fault, refused_groups}
-use Rattle.doc_server_lint.specs.Values.{strings_of, text_fault, told}
+use Rattle.doc_server_lint_faults.specs.Rules.{Keys, names_of}
+use Rattle.doc_server_lint_faults.specs.Unknown.{meant, unknown_in, unknown_in_table, unknown_key}
+use Rattle.doc_server_lint_faults.specs.Values.{except_fault, form_told, group_told, groups_fault, is_form, key_fault, refused_groups}
+use Rattle.doc_server_lint_faults.specs.Values.{strings_of, text_fault, told}
 
 -- ---- what is told of one key
 

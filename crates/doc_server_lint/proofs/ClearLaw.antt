@@ -18,17 +18,19 @@ use Rattle.doc_server_config.specs.Markdown.{markdown_at}
 use Rattle.doc_server_config.specs.PageRows.{page_of, pages_from}
 use Rattle.doc_server_config.specs.ReaderNames.{bad_name_in, bad_name_of, has_good_name}
 use Rattle.doc_server_config.specs.Settings.{cache_at, entities_at, keep_alive_at, settings_in, settings_with}
-use Rattle.doc_server_lint.specs.declared.finding.Finding.{Finding}
-use Rattle.doc_server_lint.specs.declared.place.Place.TheVariants as place
-use Rattle.doc_server_lint.specs.declared.rule.Form.TheVariants as form
-use Rattle.doc_server_lint.specs.declared.rule.Rule.TheVariants as rule
-use Rattle.doc_server_lint.specs.Faults.{faults_of, faults_of_folders, faults_of_held, faults_of_keys, faults_of_pages, faults_of_readers}
+use Rattle.doc_server_lint_faults.specs.declared.finding.Finding.{Finding}
+use Rattle.doc_server_lint_faults.specs.declared.place.Place.TheVariants as place
+use Rattle.doc_server_lint_faults.specs.declared.rule.Form.TheVariants as form
+use Rattle.doc_server_lint_faults.specs.declared.rule.Rule.TheVariants as rule
+use Rattle.doc_server_lint.specs.Faults.{faults_of, faults_of_readers}
+use Rattle.doc_server_lint_faults.specs.TableFaults.{faults_of_folders, faults_of_held, faults_of_keys, faults_of_pages}
 use Rattle.doc_server_lint.specs.Faults.{faults_of_rows}
-use Rattle.doc_server_lint.specs.Faults.{faults_of_tables, nobody_known, rows_at, rows_of}
+use Rattle.doc_server_lint.specs.Faults.{faults_of_tables, nobody_known}
+use Rattle.doc_server_lint_faults.specs.TableFaults.{rows_at, rows_of}
 use Rattle.doc_server_lint.specs.Findings.{findings_of}
 use Rattle.doc_server_lint.specs.Laws.{is_clear, is_of_site, is_taken}
-use Rattle.doc_server_lint.specs.Rules.{browse_keys, listen_keys, markdown_keys, top_keys}
-use Rattle.doc_server_lint.specs.Values.{key_fault}
+use Rattle.doc_server_lint_faults.specs.Rules.{browse_keys, listen_keys, markdown_keys, top_keys}
+use Rattle.doc_server_lint_faults.specs.Values.{key_fault}
 use Rattle.doc_server_lint.specs.Warnings.{warnings_of}
 use Rattle.doc_server_lint.proofs.Clear.{allows, cache_good, clear_append, entities_good, keys_clear, tables_good, told_allows}
 use Rattle.doc_server_lint.proofs.ClearReaders.{readers_taken}

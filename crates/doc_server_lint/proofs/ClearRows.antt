@@ -29,17 +29,19 @@ use Rattle.doc_server_config.specs.MediaNames.{media_at}
 use Rattle.doc_server_config.specs.PageRows.{page_of, page_with, pages_from, path_at, source_of}
 use Rattle.doc_server_config.specs.ReaderNames.{bad_name_from, good_name, has_good_name, is_name_at}
 use Rattle.doc_server_names.specs.Names.{is_name}
-use Rattle.doc_server_lint.specs.declared.place.Place.TheVariants as place
-use Rattle.doc_server_lint.specs.declared.rule.Form.TheVariants as form
-use Rattle.doc_server_lint.specs.declared.rule.Rule.TheVariants as rule
-use Rattle.doc_server_lint.specs.declared.what.What.TheVariants.{Bad, NoToken, TokenOf}
-use Rattle.doc_server_lint.specs.Faults.{faults_of_closed, faults_of_folders, faults_of_keys, faults_of_page, faults_of_pages}
-use Rattle.doc_server_lint.specs.Faults.{faults_of_entry, faults_of_key_again, faults_of_name, faults_of_reader, faults_of_row, finding_of, known_at}
+use Rattle.doc_server_lint_faults.specs.declared.place.Place.TheVariants as place
+use Rattle.doc_server_lint_faults.specs.declared.rule.Form.TheVariants as form
+use Rattle.doc_server_lint_faults.specs.declared.rule.Rule.TheVariants as rule
+use Rattle.doc_server_lint_faults.specs.declared.what.What.TheVariants.{Bad, NoToken, TokenOf}
+use Rattle.doc_server_lint_faults.specs.TableFaults.{faults_of_closed, faults_of_folders, faults_of_keys, faults_of_page, faults_of_pages}
+use Rattle.doc_server_lint.specs.Faults.{faults_of_entry, faults_of_key_again, faults_of_name, faults_of_reader, faults_of_row, known_at}
+use Rattle.doc_server_lint_faults.specs.TableFaults.{finding_of}
 use Rattle.doc_server_lint.specs.Faults.{naming_fault, naming_key}
-use Rattle.doc_server_lint.specs.Faults.{faults_of_readers, source_fault, with_reader}
+use Rattle.doc_server_lint.specs.Faults.{faults_of_readers, with_reader}
+use Rattle.doc_server_lint_faults.specs.TableFaults.{source_fault}
 use Rattle.doc_server_lint.specs.Laws.{is_clear}
-use Rattle.doc_server_lint.specs.Rules.{folder_keys, names_of, page_keys, reader_keys}
-use Rattle.doc_server_lint.specs.Values.{key_fault, text_fault, told}
+use Rattle.doc_server_lint_faults.specs.Rules.{folder_keys, names_of, page_keys, reader_keys}
+use Rattle.doc_server_lint_faults.specs.Values.{key_fault, text_fault, told}
 use Rattle.doc_server_lint.proofs.Clear.{allows, any_text_allows, clear_append, closed_clear, except_good, finding_clear, groups_good}
 use Rattle.doc_server_lint.proofs.Clear.{if_taken, keys_clear, media_good, only, page_text_allows, path_taken, same_names, text_taken}
 use Rattle.doc_server_lint.proofs.Clear.{told_allows}

@@ -17,13 +17,13 @@ use Rattle.doc_server_config.specs.Browsing.{guest_at, home_at, language_at, log
 use Rattle.doc_server_config.specs.Keys.{has_only, keys_in}
 use Rattle.doc_server_config.specs.Markdown.{flag_at, front_with, keys, markdown_at, markdown_of_table, markdown_with, matter_at}
 use Rattle.doc_server_config.specs.Markdown.{matter_of, options_with}
-use Rattle.doc_server_lint.specs.declared.place.Place.TheVariants as place
-use Rattle.doc_server_lint.specs.declared.rule.Form.TheVariants as form
-use Rattle.doc_server_lint.specs.declared.rule.Rule.TheVariants as rule
-use Rattle.doc_server_lint.specs.Faults.{faults_of_held}
+use Rattle.doc_server_lint_faults.specs.declared.place.Place.TheVariants as place
+use Rattle.doc_server_lint_faults.specs.declared.rule.Form.TheVariants as form
+use Rattle.doc_server_lint_faults.specs.declared.rule.Rule.TheVariants as rule
+use Rattle.doc_server_lint_faults.specs.TableFaults.{faults_of_held}
 use Rattle.doc_server_lint.specs.Laws.{is_clear}
-use Rattle.doc_server_lint.specs.Rules.{browse_keys, listen_keys, markdown_keys, names_of}
-use Rattle.doc_server_lint.specs.Values.{key_fault}
+use Rattle.doc_server_lint_faults.specs.Rules.{browse_keys, listen_keys, markdown_keys, names_of}
+use Rattle.doc_server_lint_faults.specs.Values.{key_fault}
 use Rattle.doc_server_lint.proofs.Clear.{allows, are_good, closed_clear, groups_good, if_taken, only, path_taken, same_names, text_taken}
 use Rattle.doc_server_lint.proofs.Clear.{told_allows}
 

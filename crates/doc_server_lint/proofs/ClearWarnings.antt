@@ -7,15 +7,16 @@ use Rattle.toml.specs.Data.{Data, Items, no_items, item, Members, get, as_table}
 use Rattle.doc_store_readers.specs.Keys.{key_in}
 use Rattle.doc_server_config.specs.Keys.{is_one_of, keys_in}
 use Rattle.doc_server_config.specs.PageRows.{path_at}
-use Rattle.doc_server_lint.specs.declared.finding.Finding.{Finding}
-use Rattle.doc_server_lint.specs.declared.place.Place.{Place}
-use Rattle.doc_server_lint.specs.declared.place.Place.TheVariants as place
-use Rattle.doc_server_lint.specs.declared.what.What.{What}
-use Rattle.doc_server_lint.specs.declared.what.What.TheVariants.{Unknown, Unheld, Covers}
-use Rattle.doc_server_lint.specs.Faults.{Rows, finding_of, row_of, rows_at, with_row}
+use Rattle.doc_server_lint_faults.specs.declared.finding.Finding.{Finding}
+use Rattle.doc_server_lint_faults.specs.declared.place.Place.{Place}
+use Rattle.doc_server_lint_faults.specs.declared.place.Place.TheVariants as place
+use Rattle.doc_server_lint_faults.specs.declared.what.What.{What}
+use Rattle.doc_server_lint_faults.specs.declared.what.What.TheVariants.{Unknown, Unheld, Covers}
+use Rattle.doc_server_lint.specs.Faults.{Rows, row_of, with_row}
+use Rattle.doc_server_lint_faults.specs.TableFaults.{finding_of, rows_at}
 use Rattle.doc_server_lint.specs.Laws.{is_clear}
-use Rattle.doc_server_lint.specs.Rules.{known_reader_keys, names_of, page_keys, top_keys}
-use Rattle.doc_server_lint.specs.Unknown.{meant, unknown_in, unknown_in_table, unknown_key, unknown_keys}
+use Rattle.doc_server_lint_faults.specs.Rules.{known_reader_keys, names_of, page_keys, top_keys}
+use Rattle.doc_server_lint_faults.specs.Unknown.{meant, unknown_in, unknown_in_table, unknown_key, unknown_keys}
 use Rattle.doc_server_lint.specs.Warnings.{groups_of, held_groups, owners_warning, token_warning, unheld_group, unheld_groups, warnings_of}
 use Rattle.doc_server_lint.specs.Warnings.{warnings_of_folders, warnings_of_page, warnings_of_pages, warnings_of_reader}
 use Rattle.doc_server_lint.specs.Warnings.{warnings_of_readers, warnings_of_rows}

@@ -25,15 +25,17 @@ use Rattle.doc_server_config.specs.Keys.{has_only}
 use Rattle.doc_server_config.specs.PageRows.{page_of, pages_from}
 use Rattle.doc_server_config.specs.ReaderNames.{bad_name_in}
 use Rattle.doc_server_config.specs.Settings.{settings_in}
-use Rattle.doc_server_lint.specs.declared.finding.Finding.{Finding}
-use Rattle.doc_server_lint.specs.declared.place.Place.{Place}
-use Rattle.doc_server_lint.specs.declared.place.Place.TheVariants as place
-use Rattle.doc_server_lint.specs.Faults.{faults_of, faults_of_closed, faults_of_folders, faults_of_held, faults_of_keys, faults_of_page}
-use Rattle.doc_server_lint.specs.Faults.{faults_of_pages}
-use Rattle.doc_server_lint.specs.Faults.{faults_of_readers, faults_of_rows, faults_of_tables, nobody_known, rows_at, rows_of}
+use Rattle.doc_server_lint_faults.specs.declared.finding.Finding.{Finding}
+use Rattle.doc_server_lint_faults.specs.declared.place.Place.{Place}
+use Rattle.doc_server_lint_faults.specs.declared.place.Place.TheVariants as place
+use Rattle.doc_server_lint.specs.Faults.{faults_of}
+use Rattle.doc_server_lint_faults.specs.TableFaults.{faults_of_closed, faults_of_folders, faults_of_held, faults_of_keys, faults_of_page}
+use Rattle.doc_server_lint_faults.specs.TableFaults.{faults_of_pages}
+use Rattle.doc_server_lint.specs.Faults.{faults_of_readers, faults_of_rows, faults_of_tables, nobody_known}
+use Rattle.doc_server_lint_faults.specs.TableFaults.{rows_at, rows_of}
 use Rattle.doc_server_lint.specs.Findings.{findings_of}
 use Rattle.doc_server_lint.specs.Laws.{first_refusal, is_of_folder, is_of_page}
-use Rattle.doc_server_lint.specs.Rules.{browse_keys, folder_keys, listen_keys, markdown_keys, top_keys}
+use Rattle.doc_server_lint_faults.specs.Rules.{browse_keys, folder_keys, listen_keys, markdown_keys, top_keys}
 use Rattle.doc_server_lint.specs.Warnings.{warnings_of}
 use Rattle.doc_server_lint.proofs.ClearRows.{folder_clear, page_clear}
 use Rattle.doc_server_lint.proofs.FirstSteps.{IsOff, closed_at, first_append, first_here, held_at, keys_at_place, no_pages, no_readers}

@@ -17,17 +17,19 @@ use Rattle.doc_server_config.specs.Bounds.{bounds_in}
 use Rattle.doc_server_config.specs.Folders.{folder_of, folders_from}
 use Rattle.doc_server_config.specs.Listenings.{listening_of_document, unless_named, with_bounds, with_folders, with_tables}
 use Rattle.doc_server_config.specs.ReaderNames.{bad_name_from, bad_name_in, bad_name_of, has_good_name}
-use Rattle.doc_server_lint.specs.declared.finding.Finding.{Finding}
+use Rattle.doc_server_lint_faults.specs.declared.finding.Finding.{Finding}
 use Rattle.doc_server_lint.specs.declared.known_readers.KnownReaders.{KnownReaders}
-use Rattle.doc_server_lint.specs.declared.place.Place.{Place}
-use Rattle.doc_server_lint.specs.declared.place.Place.TheVariants as place
-use Rattle.doc_server_lint.specs.declared.what.What.{What}
-use Rattle.doc_server_lint.specs.Faults.{faults_of_entry, faults_of_folders, faults_of_name, faults_of_pages, faults_of_reader}
-use Rattle.doc_server_lint.specs.Faults.{faults_of_readers, finding_of, nobody_known, rows_at, rows_of, with_reader}
+use Rattle.doc_server_lint_faults.specs.declared.place.Place.{Place}
+use Rattle.doc_server_lint_faults.specs.declared.place.Place.TheVariants as place
+use Rattle.doc_server_lint_faults.specs.declared.what.What.{What}
+use Rattle.doc_server_lint.specs.Faults.{faults_of_entry, faults_of_name, faults_of_reader}
+use Rattle.doc_server_lint_faults.specs.TableFaults.{faults_of_folders, faults_of_pages}
+use Rattle.doc_server_lint.specs.Faults.{faults_of_readers, nobody_known, with_reader}
+use Rattle.doc_server_lint_faults.specs.TableFaults.{finding_of, rows_at, rows_of}
 use Rattle.doc_server_lint.specs.Findings.{findings_of}
 use Rattle.doc_server_lint.specs.Laws.{first_refusal, is_of_name, is_of_reader}
-use Rattle.doc_server_lint.specs.Rules.{name_key}
-use Rattle.doc_server_lint.specs.Values.{key_fault}
+use Rattle.doc_server_lint_faults.specs.Rules.{name_key}
+use Rattle.doc_server_lint_faults.specs.Values.{key_fault}
 use Rattle.doc_server_lint.proofs.ClearRows.{name_clear}
 use Rattle.doc_server_lint.proofs.FirstLaw.{bounds_refused, first_of_rows}
 use Rattle.doc_server_lint.proofs.FirstReaders.{entry_unnamed, unnamed}

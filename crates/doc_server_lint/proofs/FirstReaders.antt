@@ -21,19 +21,22 @@ use Rattle.doc_server_config.specs.declared.page_row.PageRow.{PageRow}
 use Rattle.doc_server_config.specs.Configurations.{config_of_document, with_pages, with_readers, with_settings}
 use Rattle.doc_server_config.specs.PageRows.{page_of, pages_from}
 use Rattle.doc_server_config.specs.Settings.{settings_in}
-use Rattle.doc_server_lint.specs.declared.finding.Finding.{Finding}
-use Rattle.doc_server_lint.specs.declared.place.Place.{Place}
-use Rattle.doc_server_lint.specs.declared.place.Place.TheVariants as place
+use Rattle.doc_server_lint_faults.specs.declared.finding.Finding.{Finding}
+use Rattle.doc_server_lint_faults.specs.declared.place.Place.{Place}
+use Rattle.doc_server_lint_faults.specs.declared.place.Place.TheVariants as place
 use Rattle.doc_server_lint.specs.declared.known_readers.KnownReaders.{KnownReaders}
-use Rattle.doc_server_lint.specs.declared.what.What.{What}
-use Rattle.doc_server_lint.specs.declared.what.What.TheVariants.{TokenOf}
-use Rattle.doc_server_lint.specs.Faults.{faults_of_entry, faults_of_folders, faults_of_key_again, faults_of_keys, faults_of_name}
-use Rattle.doc_server_lint.specs.Faults.{faults_of_pages, faults_of_reader, faults_of_readers, faults_of_row, finding_of, known_at, known_with}
-use Rattle.doc_server_lint.specs.Faults.{naming_fault, naming_key, nobody_known, rows_at, rows_of, with_reader}
+use Rattle.doc_server_lint_faults.specs.declared.what.What.{What}
+use Rattle.doc_server_lint_faults.specs.declared.what.What.TheVariants.{TokenOf}
+use Rattle.doc_server_lint.specs.Faults.{faults_of_entry, faults_of_key_again, faults_of_name}
+use Rattle.doc_server_lint_faults.specs.TableFaults.{faults_of_folders, faults_of_keys}
+use Rattle.doc_server_lint.specs.Faults.{faults_of_reader, faults_of_readers, faults_of_row, known_at, known_with}
+use Rattle.doc_server_lint_faults.specs.TableFaults.{faults_of_pages, finding_of}
+use Rattle.doc_server_lint.specs.Faults.{naming_fault, naming_key, nobody_known, with_reader}
+use Rattle.doc_server_lint_faults.specs.TableFaults.{rows_at, rows_of}
 use Rattle.doc_server_lint.specs.Findings.{findings_of}
 use Rattle.doc_server_lint.specs.Laws.{first_refusal, is_of_name, is_of_reader}
-use Rattle.doc_server_lint.specs.Rules.{name_key, reader_keys}
-use Rattle.doc_server_lint.specs.Values.{key_fault}
+use Rattle.doc_server_lint_faults.specs.Rules.{name_key, reader_keys}
+use Rattle.doc_server_lint_faults.specs.Values.{key_fault}
 use Rattle.doc_server_lint.proofs.ClearReaders.{AreKnown, comes_known, entries_in, entries_are, entries_taken, is_reader, kept, key_is}
 use Rattle.doc_server_lint.proofs.ClearReaders.{none_known, one_more}
 use Rattle.doc_server_lint.proofs.ClearRows.{each, entry_clear}

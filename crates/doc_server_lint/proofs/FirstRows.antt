@@ -16,23 +16,26 @@ use Rattle.doc_store_readers.specs.Readers.{readers_from, readers_of_document}
 use Rattle.doc_store_readers.specs.Readers.{readers_of_entries, table_of, tables_at}
 use Rattle.doc_server_config.specs.declared.config.ConfigError.TheVariants.{BadReaders}
 use Rattle.doc_server_config.specs.Configurations.{config_of_document}
-use Rattle.doc_server_lint.specs.declared.finding.Finding.{Finding}
-use Rattle.doc_server_lint.specs.declared.place.Place.{Place}
-use Rattle.doc_server_lint.specs.declared.place.Place.TheVariants as place
+use Rattle.doc_server_lint_faults.specs.declared.finding.Finding.{Finding}
+use Rattle.doc_server_lint_faults.specs.declared.place.Place.{Place}
+use Rattle.doc_server_lint_faults.specs.declared.place.Place.TheVariants as place
 use Rattle.doc_server_lint.specs.declared.known_readers.KnownReaders.{KnownReaders}
-use Rattle.doc_server_lint.specs.declared.rule.Form.{Form}
-use Rattle.doc_server_lint.specs.declared.rule.Form.TheVariants as form
-use Rattle.doc_server_lint.specs.declared.rule.Rule.TheVariants as rule
-use Rattle.doc_server_lint.specs.declared.what.What.{What}
-use Rattle.doc_server_lint.specs.declared.what.What.TheVariants.{TokenOf}
-use Rattle.doc_server_lint.specs.Faults.{faults_of_entry, faults_of_folders, faults_of_key_again, faults_of_keys, faults_of_name}
-use Rattle.doc_server_lint.specs.Faults.{faults_of_pages, faults_of_reader, faults_of_readers, faults_of_row, finding_of, known_at}
-use Rattle.doc_server_lint.specs.Faults.{naming_fault, naming_key, nobody_known, rows_at, rows_of, with_reader}
+use Rattle.doc_server_lint_faults.specs.declared.rule.Form.{Form}
+use Rattle.doc_server_lint_faults.specs.declared.rule.Form.TheVariants as form
+use Rattle.doc_server_lint_faults.specs.declared.rule.Rule.TheVariants as rule
+use Rattle.doc_server_lint_faults.specs.declared.what.What.{What}
+use Rattle.doc_server_lint_faults.specs.declared.what.What.TheVariants.{TokenOf}
+use Rattle.doc_server_lint.specs.Faults.{faults_of_entry, faults_of_key_again, faults_of_name}
+use Rattle.doc_server_lint_faults.specs.TableFaults.{faults_of_folders, faults_of_keys}
+use Rattle.doc_server_lint.specs.Faults.{faults_of_reader, faults_of_readers, faults_of_row, known_at}
+use Rattle.doc_server_lint_faults.specs.TableFaults.{faults_of_pages, finding_of}
+use Rattle.doc_server_lint.specs.Faults.{naming_fault, naming_key, nobody_known, with_reader}
+use Rattle.doc_server_lint_faults.specs.TableFaults.{rows_at, rows_of}
 use Rattle.doc_server_lint.specs.Findings.{findings_of}
 use Rattle.doc_server_lint.specs.Laws.{first_refusal, is_again, is_of_name, is_of_reader}
-use Rattle.doc_server_lint.specs.Rules.{name_key, reader_keys}
-use Rattle.doc_server_lint.specs.Values.{form_told, group_told, groups_fault, is_form, key_fault, refused_groups, strings_of, text_fault}
-use Rattle.doc_server_lint.specs.Values.{told}
+use Rattle.doc_server_lint_faults.specs.Rules.{name_key, reader_keys}
+use Rattle.doc_server_lint_faults.specs.Values.{form_told, group_told, groups_fault, is_form, key_fault, refused_groups, strings_of, text_fault}
+use Rattle.doc_server_lint_faults.specs.Values.{told}
 use Rattle.doc_server_lint.proofs.ClearRows.{reader_entry}
 use Rattle.doc_server_lint.proofs.FirstLaw.{first_of_rows}
 use Rattle.doc_server_lint.proofs.FirstReaders.{of_readers, of_table}

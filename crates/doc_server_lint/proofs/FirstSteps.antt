@@ -6,20 +6,22 @@ use Rattle.std.specs.Option.{option_or}
 use Rattle.toml.specs.Data.{Data, Items, no_items, item, Members, get, as_table}
 use Rattle.doc_store_readers.specs.Keys.{key_in}
 use Rattle.doc_server_config.specs.Keys.{is_one_of, keys_in}
-use Rattle.doc_server_lint.specs.declared.finding.Finding.{Finding}
-use Rattle.doc_server_lint.specs.declared.place.Place.{Place}
-use Rattle.doc_server_lint.specs.declared.place.Place.TheVariants as place
-use Rattle.doc_server_lint.specs.declared.what.What.{What}
-use Rattle.doc_server_lint.specs.declared.what.What.TheVariants.{TokenOf, Unknown}
+use Rattle.doc_server_lint_faults.specs.declared.finding.Finding.{Finding}
+use Rattle.doc_server_lint_faults.specs.declared.place.Place.{Place}
+use Rattle.doc_server_lint_faults.specs.declared.place.Place.TheVariants as place
+use Rattle.doc_server_lint_faults.specs.declared.what.What.{What}
+use Rattle.doc_server_lint_faults.specs.declared.what.What.TheVariants.{TokenOf, Unknown}
 use Rattle.doc_server_lint.specs.declared.known_readers.KnownReaders.{KnownReaders}
-use Rattle.doc_server_lint.specs.Faults.{fault_of_key, faults_of_closed, faults_of_held, faults_of_keys, faults_of_page}
-use Rattle.doc_server_lint.specs.Faults.{faults_of_pages}
-use Rattle.doc_server_lint.specs.Faults.{faults_of_entry, faults_of_name, faults_of_reader, faults_of_readers, faults_of_row, finding_of, known_at}
-use Rattle.doc_server_lint.specs.Faults.{naming_fault, naming_key, source_fault, with_reader}
+use Rattle.doc_server_lint_faults.specs.TableFaults.{fault_of_key, faults_of_closed, faults_of_held, faults_of_keys, faults_of_page}
+use Rattle.doc_server_lint_faults.specs.TableFaults.{faults_of_pages}
+use Rattle.doc_server_lint.specs.Faults.{faults_of_entry, faults_of_name, faults_of_reader, faults_of_readers, faults_of_row, known_at}
+use Rattle.doc_server_lint_faults.specs.TableFaults.{finding_of}
+use Rattle.doc_server_lint.specs.Faults.{naming_fault, naming_key, with_reader}
+use Rattle.doc_server_lint_faults.specs.TableFaults.{source_fault}
 use Rattle.doc_server_lint.specs.Laws.{first_refusal, is_clear, is_refusal}
-use Rattle.doc_server_lint.specs.Rules.{Keys, name_key, names_of, page_keys, reader_keys}
-use Rattle.doc_server_lint.specs.Unknown.{meant, unknown_in, unknown_in_table, unknown_key}
-use Rattle.doc_server_lint.specs.Values.{key_fault}
+use Rattle.doc_server_lint_faults.specs.Rules.{Keys, name_key, names_of, page_keys, reader_keys}
+use Rattle.doc_server_lint_faults.specs.Unknown.{meant, unknown_in, unknown_in_table, unknown_key}
+use Rattle.doc_server_lint_faults.specs.Values.{key_fault}
 
 module _ (test : Finding → Bool) where
   -- of two lists the first

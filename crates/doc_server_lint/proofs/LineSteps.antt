@@ -1,7 +1,7 @@
 -- What is told, piece by piece.
 use Rattle.std.proofs.Common.{◌≡◌, ℕ, List, ◌++◌, append_assoc, ap, sym, ◌∙◌, subst}
 use Rattle.std.specs.Prelude.{Result, Ok, Err, OnOk}
-use Rattle.doc_server_lint.specs.declared.what.What.{What}
+use Rattle.doc_server_lint_faults.specs.declared.what.What.{What}
 use Rattle.doc_server_lint.specs.Lines.{what_text}
 
 module _ {E : Type 0} where

@@ -2,12 +2,13 @@
 use Rattle.std.proofs.Common.{◌≡◌, ℕ, List, ◌++◌, true, ap, ◌∙◌}
 use Rattle.std.specs.Prelude.{OnOk, Option, Some, option_map, Result, Ok, Err}
 use Rattle.doc_store_readers.specs.declared.keys.Key.{Key}
-use Rattle.doc_server_lint.specs.declared.finding.Finding.{Finding}
+use Rattle.doc_server_lint_faults.specs.declared.finding.Finding.{Finding}
 use Rattle.doc_server_lint.specs.declared.known_readers.KnownReaders.{KnownReaders}
-use Rattle.doc_server_lint.specs.declared.place.Place.TheVariants as place
-use Rattle.doc_server_lint.specs.declared.what.What.{What}
-use Rattle.doc_server_lint.specs.declared.what.What.TheVariants.{TokenOf}
-use Rattle.doc_server_lint.specs.Faults.{faults_of_key_again, finding_of, known_as, naming_key}
+use Rattle.doc_server_lint_faults.specs.declared.place.Place.TheVariants as place
+use Rattle.doc_server_lint_faults.specs.declared.what.What.{What}
+use Rattle.doc_server_lint_faults.specs.declared.what.What.TheVariants.{TokenOf}
+use Rattle.doc_server_lint.specs.Faults.{faults_of_key_again, known_as, naming_key}
+use Rattle.doc_server_lint_faults.specs.TableFaults.{finding_of}
 
 pub on_ok : {A E P : Type 0} (r : Result A E) → P → OnOk r P
 on_ok (Ok x) p = p

@@ -3,7 +3,7 @@ use Rattle.std.proofs.Common.{◌≡◌, ◌+◌, ◌<◌, ℕ, List, [], ◌∷
 use Rattle.std.specs.Prelude.{Option}
 use Rattle.std.proofs.lemmas.List.{append-nil, take_more}
 use Rattle.toml.specs.Data.{Members}
-use Rattle.doc_server_lint.specs.declared.finding.Finding.{Finding}
+use Rattle.doc_server_lint_faults.specs.declared.finding.Finding.{Finding}
 use Rattle.doc_server_lint.specs.Lines.{finding_line}
 use Rattle.doc_server_lint.specs.Reports.{IsLine, IsReport, name_at}
 

@@ -9,11 +9,11 @@ use Rattle.doc_server_config.specs.declared.listening.ListeningError.TheVariants
 use Rattle.doc_server_config.specs.Browsing.{browse_of_document}
 use Rattle.doc_server_config.specs.Configurations.{config_of_document}
 use Rattle.doc_server_config.specs.Listenings.{listening_of_document}
-use Rattle.doc_server_lint.specs.declared.finding.Finding.{Finding}
-use Rattle.doc_server_lint.specs.declared.place.Place.{Place}
-use Rattle.doc_server_lint.specs.declared.place.Place.TheVariants.{Reader, Page, Folder}
-use Rattle.doc_server_lint.specs.declared.what.What.{What}
-use Rattle.doc_server_lint.specs.declared.what.What.TheVariants.{LongText, TokenOf}
+use Rattle.doc_server_lint_faults.specs.declared.finding.Finding.{Finding}
+use Rattle.doc_server_lint_faults.specs.declared.place.Place.{Place}
+use Rattle.doc_server_lint_faults.specs.declared.place.Place.TheVariants.{Reader, Page, Folder}
+use Rattle.doc_server_lint_faults.specs.declared.what.What.{What}
+use Rattle.doc_server_lint_faults.specs.declared.what.What.TheVariants.{LongText, TokenOf}
 use Rattle.doc_server_lint.specs.Findings.{findings_of}
 
 -- whether all that `listen` reads of a document is taken, the names of its readers too

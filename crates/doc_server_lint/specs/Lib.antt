@@ -1,11 +1,7 @@
-pub mod Rules
-pub mod Values
-pub mod Unknown
 pub mod Faults
 pub mod Warnings
 pub mod Findings
 pub mod Laws
 pub mod Lines
-pub mod RowPlaces
 pub mod Reports
 pub mod Syntax

@@ -1,20 +1,20 @@
 -- How a finding is printed, a line each. No token is printed, since no finding holds one.
 use Rattle.std.specs.Prelude.{ℕ, List, [], ◌++◌, Bool, true, false, codes, decimal, Option, Some, None}
 use Rattle.doc_server_config.specs.BadFiles.{shown_name}
-use Rattle.doc_server_lint.specs.declared.finding.Finding.{Finding}
-use Rattle.doc_server_lint.specs.declared.place.Place.{Place}
-use Rattle.doc_server_lint.specs.declared.place.Place.TheVariants.{Document, Markdown, Listen, Browse, Reader, Page, Folder}
-use Rattle.doc_server_lint.specs.declared.what.Kind.{Kind}
-use Rattle.doc_server_lint.specs.declared.what.Kind.TheVariants as kind
-use Rattle.doc_server_lint.specs.declared.what.What.{What}
-use Rattle.doc_server_lint.specs.declared.what.What.TheVariants.{MustBe, Bad, Missing, Unknown, NoToken, TwoTokens, TokenOf, ShortToken, ClearToken, NoName}
-use Rattle.doc_server_lint.specs.declared.what.What.TheVariants.{NoReaders}
-use Rattle.doc_server_lint.specs.declared.what.What.TheVariants.{NoOwner}
-use Rattle.doc_server_lint.specs.declared.what.What.TheVariants.{NoGroup, ManyGroups, Unheld, NoPath, NoSource, TwoSources, LongText}
-use Rattle.doc_server_lint.specs.declared.what.What.TheVariants.{Covers}
-use Rattle.doc_server_lint.specs.declared.what.What.TheVariants.{ManyPages, NotUtf8, CannotRead, PathOfPage, PathOfFolder, BadRow}
-use Rattle.doc_server_lint.specs.declared.what.What.TheVariants.{NameAgain}
-use Rattle.doc_server_lint.specs.declared.what.What.TheVariants.{NoPage, Edited, Journal}
+use Rattle.doc_server_lint_faults.specs.declared.finding.Finding.{Finding}
+use Rattle.doc_server_lint_faults.specs.declared.place.Place.{Place}
+use Rattle.doc_server_lint_faults.specs.declared.place.Place.TheVariants.{Document, Markdown, Listen, Browse, Reader, Page, Folder}
+use Rattle.doc_server_lint_faults.specs.declared.what.Kind.{Kind}
+use Rattle.doc_server_lint_faults.specs.declared.what.Kind.TheVariants as kind
+use Rattle.doc_server_lint_faults.specs.declared.what.What.{What}
+use Rattle.doc_server_lint_faults.specs.declared.what.What.TheVariants.{MustBe, Bad, Missing, Unknown, NoToken, TwoTokens, TokenOf, ShortToken, ClearToken, NoName}
+use Rattle.doc_server_lint_faults.specs.declared.what.What.TheVariants.{NoReaders}
+use Rattle.doc_server_lint_faults.specs.declared.what.What.TheVariants.{NoOwner}
+use Rattle.doc_server_lint_faults.specs.declared.what.What.TheVariants.{NoGroup, ManyGroups, Unheld, NoPath, NoSource, TwoSources, LongText}
+use Rattle.doc_server_lint_faults.specs.declared.what.What.TheVariants.{Covers}
+use Rattle.doc_server_lint_faults.specs.declared.what.What.TheVariants.{ManyPages, NotUtf8, CannotRead, PathOfPage, PathOfFolder, BadRow}
+use Rattle.doc_server_lint_faults.specs.declared.what.What.TheVariants.{NameAgain}
+use Rattle.doc_server_lint_faults.specs.declared.what.What.TheVariants.{NoPage, Edited, Journal}
 
 -- a text of the configuration between two others: control characters don't stand as they are
 abbrev pub named : List ℕ → List ℕ → List ℕ → List ℕ

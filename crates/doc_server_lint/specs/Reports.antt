@@ -3,11 +3,11 @@ use Rattle.std.specs.Prelude.{◌≡◌, ℕ, ◌-◌, List, [], ◌∷◌, ◌+
 use Rattle.toml.specs.Data.{Data, Members, at, get, get_member}
 use Rattle.doc_server_config.specs.PageRows.{path_at}
 use Rattle.doc_server_config.specs.ReaderNames.{name_at as name_of}
-use Rattle.doc_server_lint.specs.declared.finding.Finding.{Finding}
-use Rattle.doc_server_lint.specs.declared.place.Place.{Place}
-use Rattle.doc_server_lint.specs.declared.place.Place.TheVariants.{Document, Markdown, Listen, Browse, Reader, Page, Folder}
+use Rattle.doc_server_lint_faults.specs.declared.finding.Finding.{Finding}
+use Rattle.doc_server_lint_faults.specs.declared.place.Place.{Place}
+use Rattle.doc_server_lint_faults.specs.declared.place.Place.TheVariants.{Document, Markdown, Listen, Browse, Reader, Page, Folder}
 use Rattle.doc_server_lint.specs.Lines.{finding_line}
-use Rattle.doc_server_lint.specs.RowPlaces.{IsLineOf}
+use Rattle.doc_server_lint_faults.specs.RowPlaces.{IsLineOf}
 
 -- the line that is told of a place is that of its row, where one is told
 abbrev pub IsLine : List ℕ → Place → Option ℕ → Type 0

@@ -9,16 +9,17 @@ use Rattle.doc_store_readers.specs.Readers.{groups_at, owner_at}
 use Rattle.doc_store_readers.specs.declared.keys.Key.{Key}
 use Rattle.doc_store_readers.specs.declared.keys.Key.TheVariants as keys
 use Rattle.doc_server_config.specs.PageRows.{path_at}
-use Rattle.doc_server_lint.specs.declared.finding.Finding.{Finding}
-use Rattle.doc_server_lint.specs.declared.place.Place.{Place}
-use Rattle.doc_server_lint.specs.declared.place.Place.TheVariants.{Document, Reader, Page, Folder}
-use Rattle.doc_server_lint.specs.declared.what.What.{What}
-use Rattle.doc_server_lint.specs.declared.what.What.TheVariants.{ShortToken, ClearToken, NoReaders, NoOwner, Covers, Unheld}
-use Rattle.doc_server_lint.specs.Faults.{Rows, finding_of, row_of, rows_at, with_row}
-use Rattle.doc_server_lint.specs.RowPlaces.{count_items}
-use Rattle.doc_server_lint.specs.Rules.{names_of, top_keys, known_reader_keys, page_keys}
-use Rattle.doc_server_lint.specs.Unknown.{unknown_in, unknown_keys}
-use Rattle.doc_server_lint.specs.Values.{told}
+use Rattle.doc_server_lint_faults.specs.declared.finding.Finding.{Finding}
+use Rattle.doc_server_lint_faults.specs.declared.place.Place.{Place}
+use Rattle.doc_server_lint_faults.specs.declared.place.Place.TheVariants.{Document, Reader, Page, Folder}
+use Rattle.doc_server_lint_faults.specs.declared.what.What.{What}
+use Rattle.doc_server_lint_faults.specs.declared.what.What.TheVariants.{ShortToken, ClearToken, NoReaders, NoOwner, Covers, Unheld}
+use Rattle.doc_server_lint.specs.Faults.{Rows, row_of, with_row}
+use Rattle.doc_server_lint_faults.specs.TableFaults.{finding_of, rows_at}
+use Rattle.doc_server_lint_faults.specs.RowPlaces.{count_items}
+use Rattle.doc_server_lint_faults.specs.Rules.{names_of, top_keys, known_reader_keys, page_keys}
+use Rattle.doc_server_lint_faults.specs.Unknown.{unknown_in, unknown_keys}
+use Rattle.doc_server_lint_faults.specs.Values.{told}
 
 -- ---- readers
 

@@ -2,13 +2,10 @@
 
 ghost use Rattle.std.specs.Prelude.{◌≡◌, OnOk};
 ghost use Rattle.std.specs.FinMap as map;
-ghost use Rattle.std.specs.List.{list_all};
 ghost use Rattle.sha2.specs.Sha256.{sha256};
-ghost use Rattle.doc_store_readers.specs.Keys.{digest_of_text, is_digit};
 
 use doc_page_parts::failure::Memory;
 use doc_page_parts::heap::{BTreeMap, Heap};
-use hex::FromHex;
 use sha2::{Digest, Sha256};
 use std::marker::Model;
 
@@ -17,29 +14,6 @@ pub(crate) fn digest_of(token: &str) -> [u8; 32]
     ensures { result ≡ sha256 token.now }
 {
     Sha256::digest(token.as_bytes())
-}
-
-/// The 32 bytes of 64 lower case hexadecimal digits.
-pub(crate) fn digest_of_text(text: &str) -> Option<[u8; 32]>
-    ensures { result ≡ digest_of_text text.now }
-{
-    if !are_digits(text.as_bytes()) {
-        return None;
-    }
-    <[u8; 32] as FromHex>::from_hex(text).ok()
-}
-
-/// Whether all are lower case hexadecimal digits.
-fn are_digits(bytes: &[u8]) -> bool
-    ensures { result ≡ list_all is_digit bytes.now }
-{
-    bytes.iter().all(|byte| is_digit(*byte))
-}
-
-fn is_digit(byte: u8) -> bool
-    ensures { result ≡ is_digit byte }
-{
-    (48 <= byte && byte <= 57) || (97 <= byte && byte <= 102)
 }
 
 /// The rows that have a digest, by it. Contracts see the map.

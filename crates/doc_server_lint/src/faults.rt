@@ -4,17 +4,17 @@ ghost use Rattle.std.specs.Prelude.{◌≡◌, ◌++◌, OnOk};
 ghost use Rattle.toml.specs.View.{table_view};
 ghost use Rattle.doc_server_lint.specs.Faults.{faults_of, faults_of_rows, faults_of_tables};
 
-use crate::finding::Finding;
-use crate::folder_faults::push_faults_of_folders;
-use crate::page_faults::push_faults_of_pages;
-use crate::place::Place;
 use crate::reader_faults::push_faults_of_readers;
-use crate::rule::{BROWSE_KEYS, LISTEN_KEYS, MARKDOWN_KEYS, TOP_KEYS};
-use crate::table_faults::{push_faults_of_document, push_faults_of_held};
-use crate::tables::rows_at;
 use doc_page_parts::failure::Memory;
 use doc_page_parts::heap::{Heap, Vec};
 use doc_server_config::table::value_at;
+use doc_server_lint_faults::finding::Finding;
+use doc_server_lint_faults::folder_faults::push_faults_of_folders;
+use doc_server_lint_faults::page_faults::push_faults_of_pages;
+use doc_server_lint_faults::place::Place;
+use doc_server_lint_faults::rule::{BROWSE_KEYS, LISTEN_KEYS, MARKDOWN_KEYS, TOP_KEYS};
+use doc_server_lint_faults::table_faults::{push_faults_of_document, push_faults_of_held};
+use doc_server_lint_faults::tables::rows_at;
 use toml::Table;
 
 /// Adds the faults of a document.

@@ -7,19 +7,19 @@ ghost use Rattle.doc_server_lint.specs.Findings.{findings_of};
 ghost use Rattle.doc_server_lint.specs.Warnings.{warnings_of, warnings_of_rows};
 
 use crate::faults::push_faults;
-use crate::finding::Finding;
 use crate::held_groups::held_groups;
 use crate::page_warnings::{push_warnings_of_folders, push_warnings_of_pages};
-use crate::place::Place;
 use crate::reader_warnings::{owners_warning, push_warnings_of_readers};
 use crate::rows::Rows;
-use crate::rule::TOP_KEYS;
-use crate::table_faults::push_told;
-use crate::tables::rows_at;
-use crate::unknown::push_unknown_keys;
 use doc_page_parts::failure::Memory;
 use doc_page_parts::heap::{Heap, Vec};
 use doc_page_parts::list::List;
+use doc_server_lint_faults::finding::Finding;
+use doc_server_lint_faults::place::Place;
+use doc_server_lint_faults::rule::TOP_KEYS;
+use doc_server_lint_faults::table_faults::push_told;
+use doc_server_lint_faults::tables::rows_at;
+use doc_server_lint_faults::unknown::push_unknown_keys;
 use toml::Table;
 
 /// What a document tells: its faults, then what in it may be meant otherwise, each in the order of places.

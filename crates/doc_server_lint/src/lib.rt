@@ -2,35 +2,24 @@
 //! where it can be told, its line.
 //!
 //! What a document tells is a definition. A document of which no fault is told is taken by all that reads it, and the line that is told
-//! of a row is the row's. What files tell no contract can say: whoever reads them adds findings of these types.
+//! of a row is the row's. What files tell no contract can say: whoever reads them adds findings of the same type. That type, and what is
+//! wrong with a table by itself, are of `doc_server_lint_faults`.
 #![tactic(auto)]
 
 mod digests;
 mod faults;
-pub mod finding;
 pub mod findings;
-mod folder_faults;
-mod group_name;
 mod held_groups;
 mod known_readers;
 pub mod laws;
 pub mod line;
 pub mod order;
-mod page_faults;
 mod page_warnings;
-pub mod place;
 mod printed;
 mod reader_faults;
 mod reader_warnings;
 pub mod report;
-pub mod row_line;
 mod rows;
-pub mod rule;
 pub mod sources;
 pub mod syntax;
-mod table_faults;
-mod tables;
-mod unknown;
-mod value_fault;
-pub mod what;
 mod what_text;

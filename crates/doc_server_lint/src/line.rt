@@ -3,14 +3,14 @@
 ghost use Rattle.std.specs.Prelude.{◌≡◌, ◌++◌, [], OnOk, codes, option_copied, string_bytes};
 ghost use Rattle.doc_server_lint.specs.Lines.{finding_line, key_text, line_text, name_text, numbered, place_text, warning_text, what_text};
 
-use crate::finding::Finding;
-use crate::place::Place;
 use crate::printed::{push_named, push_numbered};
-use crate::what::What;
 use crate::what_text::push_what;
 use doc_page_parts::failure::Memory;
 use doc_page_parts::heap::String;
 use doc_page_parts::text::Text;
+use doc_server_lint_faults::finding::Finding;
+use doc_server_lint_faults::place::Place;
+use doc_server_lint_faults::what::What;
 
 /// Writes the line of a finding in a file, as `site.toml:7: reader 2: ..`, where the line and the name of its row can be told.
 pub fn push_finding(

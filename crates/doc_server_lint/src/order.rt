@@ -4,9 +4,9 @@ ghost use Rattle.std.specs.Prelude.{◌≡◌};
 ghost use Rattle.std.specs.List.{list_any};
 ghost use Rattle.std.specs.List.Sorted.{IsPermutation};
 
-use crate::finding::Finding;
 use doc_page_parts::failure::Memory;
 use doc_page_parts::heap::Vec;
+use doc_server_lint_faults::finding::Finding;
 
 /// Puts findings in the order in which they are told: faults first, each part in the order of places. Those of one place stay as they
 /// stand.

@@ -8,18 +8,18 @@ ghost use Rattle.doc_server_config.specs.PageRows.{path_at};
 ghost use Rattle.doc_server_lint.specs.Faults.{with_row};
 ghost use Rattle.doc_server_lint.specs.Warnings.{warnings_of_folders, warnings_of_page, warnings_of_pages};
 
-use crate::finding::Finding;
 use crate::held_groups::push_unheld_groups;
-use crate::place::Place;
 use crate::rows::Rows;
-use crate::rule::PAGE_KEYS;
-use crate::table_faults::push_told;
-use crate::unknown::push_unknown_in;
-use crate::value_fault::is_path;
-use crate::what::What;
 use doc_page_parts::failure::Memory;
 use doc_page_parts::heap::{Heap, Vec};
 use doc_page_parts::text::Text;
+use doc_server_lint_faults::finding::Finding;
+use doc_server_lint_faults::place::Place;
+use doc_server_lint_faults::rule::PAGE_KEYS;
+use doc_server_lint_faults::table_faults::push_told;
+use doc_server_lint_faults::unknown::push_unknown_in;
+use doc_server_lint_faults::value_fault::is_path;
+use doc_server_lint_faults::what::What;
 use toml::Value;
 
 /// Adds what is told of each page, where readers and guests have these groups.

@@ -8,17 +8,17 @@ ghost use Rattle.doc_store_readers.specs.declared.keys.Key.TheVariants as keys;
 ghost use Rattle.doc_server_lint.specs.Faults.{faults_of_entry, faults_of_key_again, faults_of_name, faults_of_reader, faults_of_readers, faults_of_row};
 ghost use Rattle.doc_server_lint.specs.Faults.{naming_fault, nobody_known, with_reader};
 
-use crate::digests::digest_of_text;
-use crate::finding::Finding;
 use crate::known_readers::KnownReaders;
-use crate::place::Place;
-use crate::rule::{Form, READER_KEYS, Rule};
-use crate::table_faults::{push_fault_of_key, push_faults_of_keys, push_told};
-use crate::what::What;
 use doc_page_parts::failure::Memory;
 use doc_page_parts::heap::{Heap, Vec};
 use doc_page_parts::text::Text;
 use doc_page_parts::token::is_token;
+use doc_server_lint_faults::digest_text::digest_of_text;
+use doc_server_lint_faults::finding::Finding;
+use doc_server_lint_faults::place::Place;
+use doc_server_lint_faults::rule::{Form, READER_KEYS, Rule};
+use doc_server_lint_faults::table_faults::{push_fault_of_key, push_faults_of_keys, push_told};
+use doc_server_lint_faults::what::What;
 use toml::Value;
 
 /// Adds the faults of all readers.

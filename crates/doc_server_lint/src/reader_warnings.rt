@@ -9,16 +9,16 @@ ghost use Rattle.doc_store_readers.specs.declared.keys.Key.TheVariants as keys;
 ghost use Rattle.doc_server_lint.specs.Warnings.{has_owner, is_owner, owners_warning, token_warning};
 ghost use Rattle.doc_server_lint.specs.Warnings.{warnings_of_reader, warnings_of_readers};
 
-use crate::finding::Finding;
-use crate::place::Place;
 use crate::reader_faults::token_of;
-use crate::row_line::count;
-use crate::rule::KNOWN_READER_KEYS;
-use crate::table_faults::push_told;
-use crate::unknown::push_unknown_in;
-use crate::what::What;
 use doc_page_parts::failure::Memory;
 use doc_page_parts::heap::{Heap, Vec};
+use doc_server_lint_faults::finding::Finding;
+use doc_server_lint_faults::place::Place;
+use doc_server_lint_faults::row_line::count;
+use doc_server_lint_faults::rule::KNOWN_READER_KEYS;
+use doc_server_lint_faults::table_faults::push_told;
+use doc_server_lint_faults::unknown::push_unknown_in;
+use doc_server_lint_faults::what::What;
 use toml::Value;
 
 /// How many characters a token has at least, so that nobody guesses it.

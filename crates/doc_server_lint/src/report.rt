@@ -5,18 +5,18 @@ ghost use Rattle.toml.specs.Data.{get_member};
 ghost use Rattle.toml.specs.View.{table_view, view};
 ghost use Rattle.doc_server_lint.specs.Lines.{finding_line};
 ghost use Rattle.doc_server_lint.specs.Reports.{IsLine, IsReport, name_at, name_in, path_in, row_at};
-ghost use Rattle.doc_server_lint.specs.RowPlaces.{IsLineOf};
+ghost use Rattle.doc_server_lint_faults.specs.RowPlaces.{IsLineOf};
 
-use crate::finding::Finding;
 use crate::line::push_finding;
 use crate::page_warnings::path_of;
-use crate::place::Place;
-use crate::row_line::line_of_row;
 use doc_page_parts::failure::Memory;
 use doc_page_parts::heap::{Heap, String};
 use doc_page_parts::text::Text;
 use doc_server_config::reader_names::name_in;
 use doc_server_config::table::value_at;
+use doc_server_lint_faults::finding::Finding;
+use doc_server_lint_faults::place::Place;
+use doc_server_lint_faults::row_line::line_of_row;
 use toml::{Table, Value};
 
 /// How many lines are looked up: each takes the time to read the text up to it twice.

@@ -1,10 +1,10 @@
 //! Which row gives a path.
 
 use crate::rows::Rows;
-use crate::what::What;
 use doc_page_parts::failure::Memory;
 use doc_page_parts::heap::Heap;
 use doc_page_parts::text::Text;
+use doc_server_lint_faults::what::What;
 
 /// The paths that the pages and the folders of a configuration give.
 #[derive(Drop)]

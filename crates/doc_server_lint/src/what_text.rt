@@ -4,10 +4,10 @@ ghost use Rattle.std.specs.Prelude.{◌≡◌, ◌++◌, OnOk, string_bytes};
 ghost use Rattle.doc_server_lint.specs.Lines.{kind_text, meant_text, what_text};
 
 use crate::printed::{push_named, push_numbered};
-use crate::what::{Kind, What};
 use doc_page_parts::failure::Memory;
 use doc_page_parts::heap::String;
 use doc_page_parts::text::Text;
+use doc_server_lint_faults::what::{Kind, What};
 
 /// Writes what is told of a key.
 pub(crate) fn push_what(out: &mut String, key: &str, what: &What) -> Result<(), Memory>

@@ -2,7 +2,7 @@ use Rattle.std.proofs.Common.{◌+◌, ◌++◌, drop, ap, sym, ◌∙◌}
 use Rattle.toml.specs.View.{items_view}
 use Rattle.doc_store_readers.proofs.EntrySteps.{row_more}
 use Rattle.doc_server_lint.specs.Warnings.{warnings_of_pages}
-use Rattle.doc_server_lint.proofs.RowSteps.{row_found}
+use Rattle.doc_server_lint_faults.proofs.RowSteps.{row_found}
 use Rattle.doc_server_lint.proofs.page_warnings.push_warnings_of_pages.Goals as goal
 
 pub loop-index-preserved : goal.loop-index-preserved

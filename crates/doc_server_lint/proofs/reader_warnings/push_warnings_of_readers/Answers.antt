@@ -1,7 +1,7 @@
 use Rattle.std.proofs.Common.{◌+◌, ◌++◌, ap, sym, ◌∙◌}
 use Rattle.doc_store_readers.proofs.EntrySteps.{row_more}
 use Rattle.doc_server_lint.specs.Warnings.{warnings_of_readers}
-use Rattle.doc_server_lint.proofs.RowSteps.{row_found}
+use Rattle.doc_server_lint_faults.proofs.RowSteps.{row_found}
 use Rattle.doc_server_lint.proofs.reader_warnings.push_warnings_of_readers.Goals as goal
 
 pub loop-index-preserved : goal.loop-index-preserved

@@ -1,7 +1,0 @@
-use Rattle.std.proofs.Common.{◌≡◌, drop}
-use Rattle.toml.specs.View.{items_view}
-use Rattle.doc_store_readers.specs.Readers.{are_tables}
-use Rattle.doc_server_lint.proofs.tables.are_tables.Given as goal
-
-abbrev pub invariant-loop-value : goal.invariant-loop-value
-invariant-loop-value l = are_tables (items_view l.values) ≡ are_tables (items_view (drop l.value-index l.values))

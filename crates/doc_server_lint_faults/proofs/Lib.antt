@@ -1,0 +1,4 @@
+pub mod Counts
+mod FaultExamples
+pub mod KeySteps
+pub mod RowSteps

@@ -1,0 +1,5 @@
+pub mod Rules
+pub mod Values
+pub mod Unknown
+pub mod TableFaults
+pub mod RowPlaces
