@@ -20,7 +20,7 @@ use Rattle.doc_server_settling.specs.Reserves.{reserve}
 use Rattle.doc_server_serving.specs.Invariants.{AreFree, GoesOn}
 use Rattle.doc_server_serving.specs.Leading.{IsOfPeers, LeadsQuietly, LeadsQuietlyBy}
 use Rattle.doc_server_serving.specs.Wirings.{AreWoken, IsNew, Peer, Table, Wired, WokenAt, new_peer}
-use Rattle.doc_server_serving.proofs.Given.{connected_if}
+use Rattle.doc_server_serving.proofs.GivenNumbers.{connected_if}
 use Rattle.doc_server_serving.proofs.Going.{goes_quietly, new_on}
 use Rattle.doc_server_serving.proofs.Leading.{leads_by, leads_nowhere, pushes_nothing, sends_nothing}
 use Rattle.doc_server_serving.proofs.LeavingSteps.{get_gone, wired_on}

@@ -8,7 +8,7 @@ use Rattle.doc_server_serving.specs.Doors.{is_open}
 use Rattle.doc_server_serving.specs.Invariants.{GoesOn}
 use Rattle.doc_server_serving.specs.Wirings.{Table}
 use Rattle.doc_server_serving.specs.declared.door.Door.{Door}
-use Rattle.doc_server_serving.proofs.Given.{given_more}
+use Rattle.doc_server_serving.proofs.GivenNumbers.{given_more}
 
 -- no number is given back
 pub none_less : {N R : Type 0} (page : R → Renders) (came gone : N → ℕ → Option (List ℕ)) (wakes is_free : N → ℕ → Type 0)

@@ -4,6 +4,7 @@ use Rattle.std.specs.Prelude.{Bool, IfSome, IsSome, Option, Some, None}
 use Rattle.doc_hub_answers.specs.Replies.{Renders}
 use Rattle.doc_hub.specs.Runs.{Happened, Runs, nothing}
 use Rattle.doc_hub.specs.Worlds.{World}
+use Rattle.doc_hub.proofs.RunParts.{runs_join}
 use Rattle.doc_server_journal.specs.Devices.{LeavesOnly}
 use Rattle.doc_server_journal.specs.declared.journal.Journal.{Journal}
 use Rattle.doc_server_journal.proofs.HoldLemmas.{open_reads}
@@ -12,7 +13,7 @@ use Rattle.doc_server_listen.specs.Edits.{Kept}
 use Rattle.doc_server_network.specs.Crashes.{CrashesLeave, Restores, RestoresEither}
 use Rattle.doc_server_network.specs.Saved.{IsSavedIn}
 use Rattle.doc_store.specs.Store.{StoreState}
-use Rattle.doc_server_serving.specs.Crashing.{AreKnown, RestoresFront}
+use Rattle.doc_server_serving.specs.Crashing.{AreKnown, RestoresFront, RestoresFrontBy}
 use Rattle.doc_server_serving.specs.Sites.{IsSameSite}
 use Rattle.doc_server_serving.proofs.Sites.{restored_too, same_back, same_site}
 
@@ -160,3 +161,68 @@ module _ {D : Type 0} (seen : D → Option (List ℕ)) (moment : D → ℕ) (lef
         (longer config render w run more) one)
         (leaves_weaker (RestoresEither config v u) (RestoresFront config render w (run ++ more)) b c
         (at_part config render w run more v u begins ends) two)
+
+  -- a turn alone
+  pub turn_alone : (config : StoreState) (render : Renders) (w v : World) (run : List Happened) (a b : Option (Journal D))
+      → Runs render w run v → Leaves (RestoresEither config w v) a b → Leaves (RestoresFront config render w run) a b
+  turn_alone config render w v run a b runs is =
+      leaves_weaker (RestoresEither config w v) (RestoresFront config render w run) a b (at_part config render w [] run w v (nothing w) runs) is
+
+  -- a turn, and a reload behind it, which writes nothing
+  pub reload_behind : AreKnown seen → (config : StoreState) (render : Renders) (w v u : World) (run more : List Happened)
+      (a b c : Option (Journal D)) → Runs render w run v → Leaves (RestoresEither config w v) a b → Leaves (Restores config v) b c
+      → Leaves (RestoresFront config render w (run ++ more)) a c
+  reload_behind all config render w v u run more a b c runs one two =
+      leaves_join all (RestoresFront config render w (run ++ more)) a b c
+      (leaves_weaker (RestoresFront config render w run) (RestoresFront config render w (run ++ more)) a b (longer config render w run more)
+      (turn_alone config render w v run a b runs one))
+      (leaves_weaker (Restores config v) (RestoresFront config render w (run ++ more)) b c
+      (λ file restores. record { front = run; rest = more; is = refl; world = v; runs = runs; restores = restores }) two)
+
+-- ---- over configurations in force
+
+-- a front of a run is one of the same behind another
+pub front_on : (config : StoreState) (render page : Renders) (w v : World) (run more : List Happened) (file : List ℕ) → page ≡ render
+    → Runs render w run v → RestoresFront config page v more file → RestoresFront config render w (run ++ more) file
+front_on config render page w v run more file same runs is = record {
+  front = run ++ is.front;
+  rest = is.rest;
+  is = ap (λ l. run ++ l) is.is ∙ sym (append_assoc run is.front is.rest);
+  world = is.world;
+  runs = runs_join render w v is.world run is.front runs (subst (λ r. Runs r v is.front is.world) same is.runs);
+  restores = is.restores;
+}
+
+pub longer_by : (before behind : StoreState → Type 0) → ((c : StoreState) → before c → behind c) → (render : Renders) (w : World)
+    (run more : List Happened) (file : List ℕ) → RestoresFrontBy before render w run file → RestoresFrontBy behind render w (run ++ more) file
+longer_by before behind wider render w run more file is = record {
+  config = is.config;
+  is_in_force = wider is.config is.is_in_force;
+  restores = longer is.config render w run more file is.restores;
+}
+
+module _ {D : Type 0} (seen : D → Option (List ℕ)) (moment : D → ℕ) (left_since : D → ℕ → List ℕ → Type 0) where
+  -- parts, one behind the other, each over the configuration in force
+  pub part_behind : AreKnown seen → (before behind : StoreState → Type 0) → ((c : StoreState) → before c → behind c) → (config : StoreState)
+      → behind config → (render page : Renders) (w v : World) (run more : List Happened) (a b c : Option (Journal D)) → page ≡ render
+      → Runs render w run v → CrashesLeave seen moment left_since (RestoresFrontBy before render w run) a b
+      → CrashesLeave seen moment left_since (RestoresFront config page v more) b c
+      → CrashesLeave seen moment left_since (RestoresFrontBy behind render w (run ++ more)) a c
+  part_behind all before behind wider config in_force render page w v run more a b c same runs one two =
+      leaves_join seen moment left_since all (RestoresFrontBy behind render w (run ++ more)) a b c
+      (leaves_weaker seen moment left_since (RestoresFrontBy before render w run) (RestoresFrontBy behind render w (run ++ more)) a b
+      (longer_by before behind wider render w run more) one)
+      (leaves_weaker seen moment left_since (RestoresFront config page v more) (RestoresFrontBy behind render w (run ++ more)) b c
+      (λ file is. record {
+        config = config;
+        is_in_force = in_force;
+        restores = front_on config render page w v run more file same runs is;
+      }) two)
+
+  -- the room of the journal is seen to, before the first turn
+  pub room_in_force : (in_force : StoreState → Type 0) (config : StoreState) → in_force config → (render : Renders) (w : World)
+      (run : List Happened) (a b : Option (Journal D)) → CrashesLeave seen moment left_since (Restores config w) a b
+      → CrashesLeave seen moment left_since (RestoresFrontBy in_force render w run) a b
+  room_in_force in_force config is_in_force render w run a b is =
+      leaves_weaker seen moment left_since (Restores config w) (RestoresFrontBy in_force render w run) a b
+      (λ file restores. record { config = config; is_in_force = is_in_force; restores = at_first config render w run file restores }) is

@@ -14,7 +14,7 @@ use Rattle.doc_server_serving.specs.Invariants.{AreFree, AreWired, GoesOn, GoesO
 use Rattle.doc_server_serving.specs.Leading.{IsOfPeers, Leads, LeadsQuietlyBy}
 use Rattle.doc_server_serving.specs.Turns.{Turns}
 use Rattle.doc_server_serving.specs.Wirings.{AreWoken, Gives, IsNew, Peer, SweptAll, SweptAt, Table, Wired, WokenAt, new_peer}
-use Rattle.doc_server_serving.proofs.Given.{given_more}
+use Rattle.doc_server_serving.proofs.GivenNumbers.{given_more}
 use Rattle.doc_server_serving.proofs.Leading.{IsOwn, leads_nowhere, leads_on, leads_wider, of_peers}
 use Rattle.doc_server_serving.proofs.LeavingSteps.{wired_on}
 use Rattle.doc_server_serving.proofs.TableServing.{IsOfAny}
@@ -75,7 +75,7 @@ are_same given c g p q s r t pushes sends are = record {
 }
 
 -- nothing behind it
-behind_none : (front rest : List ℕ) → rest ≡ [] → front ≡ front ++ rest
+pub behind_none : (front rest : List ℕ) → rest ≡ [] → front ≡ front ++ rest
 behind_none front rest none = sym (ap (λ l. front ++ l) none ∙ append-nil front)
 
 module _ {N R : Type 0} (page : R → Renders) (came gone : N → ℕ → Option (List ℕ)) (wakes is_free : N → ℕ → Type 0) where
@@ -117,7 +117,7 @@ module _ {N R : Type 0} (page : R → Renders) (came gone : N → ℕ → Option
   }
 
   -- a part that nobody hears or is sent anything by, without a call of the network
-  pub goes_unheard : (own : Event → Type 0) (old new : R × World) (n : N) (t : Table) → page new.0 ≡ page old.0
+  abbrev pub goes_unheard : (own : Event → Type 0) (old new : R × World) (n : N) (t : Table) → page new.0 ≡ page old.0
       → LeadsQuietlyBy own (page old.0) old.1 new.1 → new.1.given ≡ old.1.given
       → GoesOnBy page came gone wakes is_free own old new n n t t
   goes_unheard own old new n t same quiet given = record {

@@ -6,7 +6,8 @@ pub mod Crashing
 mod Ending
 mod Feeding
 mod Fewer
-mod Given
+mod Forces
+mod GivenNumbers
 mod Going
 pub mod Leading
 mod Hearing
@@ -18,6 +19,7 @@ mod Modesty
 mod NewsSteps
 mod Parting
 mod Readers
+mod Reloading
 mod ReadSteps
 mod ServingSteps
 mod Sites
@@ -29,3 +31,6 @@ mod Turning
 pub mod Tables
 pub mod Wiring
 mod Walks
+mod Hosted
+mod Joining
+mod Ready

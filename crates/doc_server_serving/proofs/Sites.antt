@@ -20,7 +20,7 @@ use Rattle.doc_server_network.specs.Saved.{HasAll, IsAllSaved, IsSavedIn, IsSett
 use Rattle.doc_server_network.specs.declared.saved_hub.SavedHub.{SavedHub}
 use Rattle.doc_store.specs.Store.{StoreState}
 use Rattle.doc_server_serving.specs.Sites.{IsSameSite}
-use Rattle.doc_server_serving.proofs.Given.{connected_if}
+use Rattle.doc_server_serving.proofs.GivenNumbers.{connected_if}
 
 pub same_site : (w : World) → IsSameSite w w
 same_site w = record { site = refl; media = refl; puts = refl }

@@ -18,3 +18,10 @@ pub record RestoresFront (config : StoreState) (render : Renders) (w : World) (r
   pub world : World
   pub runs : Runs render w front world
   pub restores : Restores config world file
+
+-- The same over one of some configurations.
+pub record RestoresFrontBy (in_force : StoreState → Type 0) (render : Renders) (w : World) (run : List Happened) (file : List ℕ)
+    : Type 0 where
+  pub config : StoreState
+  pub is_in_force : in_force config
+  pub restores : RestoresFront config render w run file

@@ -6,8 +6,8 @@ use Rattle.doc_hub.specs.Runs.{Happened, sent_on}
 use Rattle.doc_hub.specs.RunParts.{pushed_on}
 use Rattle.doc_hub.specs.Worlds.{World}
 use Rattle.doc_hub_events.specs.declared.event.Event.{Event}
-use Rattle.doc_server_network.specs.Readers.{ReaderTable}
 use Rattle.doc_server_serving.specs.Leading.{IsOfPeers, IsOfServer, LeadsBy}
+use Rattle.doc_server_serving.specs.declared.given.Given.{Given}
 use Rattle.doc_server_serving.specs.Wirings.{AreWoken, HearsFront, IsFront, IsNew, Table, Wired}
 
 -- the numbers that a hub hasn't given yet have had no connection
@@ -34,8 +34,8 @@ module _ {N R : Type 0} (page : R → Renders) (came gone : N → ℕ → Option
   abbrev pub GoesOn : R × World → R × World → N → N → Table → Table → Type 0
   GoesOn old new n m before after = GoesOnBy IsOfPeers old new n m before after
 
-  -- or of readers that were given
-  abbrev pub GoesOnWith : (Option ReaderTable → Type 0) → R × World → R × World → N → N → Table → Table → Type 0
+  -- or by readers and edits of a configuration that was given
+  abbrev pub GoesOnWith : (Option Given → Type 0) → R × World → R × World → N → N → Table → Table → Type 0
   GoesOnWith answered old new n m before after = GoesOnBy (IsOfServer answered) old new n m before after
 
 -- On each connection a front of what the run sent there was handed over, and nothing else; and what it pushed there is a front of what came.

@@ -1,13 +1,14 @@
 -- What serving does to a hub.
-use Rattle.std.specs.Prelude.{◌≡◌, ⊤, ℕ, List, [], All, Option, Some, None}
+use Rattle.std.specs.Prelude.{◌≡◌, ⊤, ℕ, List, [], All, Option, Some}
 use Rattle.doc_hub_answers.specs.Replies.{Renders}
 use Rattle.doc_hub.specs.Runs.{Happened, Runs, sent_on}
 use Rattle.doc_hub.specs.RunParts.{pushed_on}
-use Rattle.doc_hub.specs.Worlds.{World}
 use Rattle.doc_hub_events.specs.declared.event.Event.{Event}
 use Rattle.doc_hub_events.specs.declared.event.Event.TheVariants as events
 use Rattle.doc_hub_events.specs.declared.event.ReaderEdit.TheVariants as reader_edits
-use Rattle.doc_server_network.specs.Readers.{ReaderTable}
+use Rattle.doc_hub.specs.Worlds.{World}
+use Rattle.doc_server_network.specs.Reloads.{IsOnTheWay}
+use Rattle.doc_server_serving.specs.declared.given.Given.{Given}
 
 -- a connect, a push, a step or a disconnect, or whether puts are taken
 abbrev pub IsOfPeers : Event → Type 0
@@ -16,9 +17,17 @@ IsOfPeers (events.On id call) = ⊤
 IsOfPeers (events.TakePuts takes) = ⊤
 IsOfPeers event = ⊥
 
--- one of these, or readers that somebody who was asked has answered, all at once
-abbrev pub IsOfServer : (Option ReaderTable → Type 0) → Event → Type 0
-IsOfServer answered (events.Reader (reader_edits.All readers)) = answered (Some readers)
+-- the readers of a configuration that is given, all at once; or an edit on the way to what a start over its pages would serve
+abbrev pub IsOfGiven : Given → Event → Type 0
+IsOfGiven given (events.Reader (reader_edits.All readers)) = readers ≡ given.readers
+IsOfGiven given (events.Site edit) = IsOnTheWay given.pages edit
+IsOfGiven given event = ⊥
+
+-- an event of peers, or of a configuration that somebody who was asked has answered
+abbrev pub IsOfServer : (Option Given → Type 0) → Event → Type 0
+IsOfServer answered (events.Reader edit) =
+    (given : Given) × answered (Some given) × IsOfGiven given (events.Reader edit)
+IsOfServer answered (events.Site edit) = (given : Given) × answered (Some given) × IsOfGiven given (events.Site edit)
 IsOfServer answered event = IsOfPeers event
 
 -- a run of such events alone leads from one world to the other
@@ -30,7 +39,7 @@ pub record LeadsBy (Own : Event → Type 0) (render : Renders) (w v : World) : T
 abbrev pub Leads : Renders → World → World → Type 0
 Leads render w v = LeadsBy IsOfPeers render w v
 
-abbrev pub LeadsWith : (Option ReaderTable → Type 0) → Renders → World → World → Type 0
+abbrev pub LeadsWith : (Option Given → Type 0) → Renders → World → World → Type 0
 LeadsWith answered render w v = LeadsBy (IsOfServer answered) render w v
 
 -- one that pushes nothing to anybody's connection, and sends nothing there
@@ -43,15 +52,5 @@ abbrev pub LeadsQuietly : Renders → World → World → Type 0
 LeadsQuietly render w v = LeadsQuietlyBy IsOfPeers render w v
 
 -- each answer before was given behind it
-abbrev pub StayAnswered : (Option ReaderTable → Type 0) → (Option ReaderTable → Type 0) → Type 0
-StayAnswered old new = (answer : Option ReaderTable) → old answer → new answer
-
--- the readers behind an answer: those that it gives, or as before
-abbrev pub readers_behind : ReaderTable → Option ReaderTable → ReaderTable
-readers_behind before None = before
-readers_behind before (Some readers) = readers
-
--- somebody was asked, and the readers are those of the answer
-abbrev pub AreTaken : (Option ReaderTable → Type 0) → ReaderTable → ReaderTable → Type 0
-AreTaken answered before behind =
-    (answer : Option ReaderTable) × answered answer × (behind ≡ readers_behind before answer)
+abbrev pub StayAnswered : (Option Given → Type 0) → (Option Given → Type 0) → Type 0
+StayAnswered old new = (answer : Option Given) → old answer → new answer

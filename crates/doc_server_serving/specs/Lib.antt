@@ -1,6 +1,7 @@
 pub mod Crashing
 pub mod Doors
 pub mod Faults
+pub mod Forces
 pub mod Hearing
 pub mod Invariants
 pub mod Leading
@@ -17,3 +18,10 @@ pub mod Tellings
 pub mod Times
 pub mod Turns
 pub mod Wirings
+pub mod Hostings
+pub mod Hosts
+pub mod Unready
+-- words of these definitions, for the crates above
+pub use Rattle.doc_server_network.specs.Memories
+pub use Rattle.doc_server_network.specs.Networks
+pub use Rattle.doc_server_network.specs.Saved

@@ -5,9 +5,12 @@
 pub mod client;
 pub mod door;
 pub mod fault;
+pub mod given;
+pub mod hosting;
 pub mod letting_go;
 pub mod limits;
 pub mod named_file;
+pub mod net;
 pub mod next_turn;
 pub mod peers;
 pub mod room;

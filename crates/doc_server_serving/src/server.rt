@@ -5,14 +5,15 @@ ghost use Rattle.std.specs.FinMap as map;
 ghost use Rattle.std.specs.List.{list_any};
 ghost use Rattle.doc_hub.specs.Worlds.{World};
 ghost use Rattle.doc_server_network.specs.Crashes.{CrashesLeave, Restores, RestoresEither};
+ghost use Rattle.doc_server_network.specs.KeptTurns.{IsOfCalls};
 ghost use Rattle.doc_server_network.specs.Networks.{Recalls, WasAsked, WasWaitedFor, end_of_input, input_came};
-ghost use Rattle.doc_server_network.specs.Readers.{ReaderTable};
 ghost use Rattle.doc_server_network.specs.Saved.{IsAllSaved, IsReady, IsSaved, IsSettled, StaysSaved};
-ghost use Rattle.doc_server_serving.specs.Crashing.{AreKnown, RestoresFront};
+ghost use Rattle.doc_server_serving.specs.Crashing.{AreKnown, RestoresFront, RestoresFrontBy};
 ghost use Rattle.doc_server_serving.specs.Doors.{is_open};
+ghost use Rattle.doc_server_serving.specs.Forces.{AreAllOfCalls, IsInForce, IsOutcome, IsSettledInForce, IsTaken, config_behind};
 ghost use Rattle.doc_server_serving.specs.Hearing.{HeardAt, IsMinded, WaitOn};
 ghost use Rattle.doc_server_serving.specs.Invariants.{AreFree, GoesOn, GoesOnWith, HasServedNobody, IsServed};
-ghost use Rattle.doc_server_serving.specs.Leading.{AreTaken, IsOfServer, LeadsQuietly, LeadsQuietlyBy, LeadsWith, StayAnswered};
+ghost use Rattle.doc_server_serving.specs.Leading.{IsOfGiven, IsOfServer, LeadsQuietly, LeadsQuietlyBy, LeadsWith, StayAnswered};
 ghost use Rattle.doc_server_serving.specs.Parts.{AreMinded, NoMore, takes_part_at, times_among, turn_of};
 ghost use Rattle.doc_server_serving.specs.Sites.{IsSameSite};
 ghost use Rattle.doc_server_serving.specs.Wirings.{AreWoken, IsFedAt, SweptAll};
@@ -21,6 +22,7 @@ ghost use Rattle.doc_store.specs.Store.{StoreState};
 
 use crate::door::Door;
 use crate::fault::ServeFault;
+use crate::given::Given;
 use crate::letting_go::let_go;
 use crate::limits::Limits;
 use crate::named_file::NamedFile;
@@ -36,6 +38,8 @@ use doc_server_journal::clock::seconds_of;
 use doc_server_journal::device::Device;
 use doc_server_listen::share::Share;
 use doc_server_network::network::Network;
+use doc_server_network::reload_fault::{Refusal, ReloadFault};
+use doc_server_network::reloaded::Reloaded;
 use doc_server_network::saved_hub::SavedHub;
 use doc_server_settling::reserve::{RESERVE, SPARE};
 use std::alloc::AllocError;
@@ -102,9 +106,9 @@ impl Server {
         Ok(server)
     }
 
-    /// Serves until standard input ends, where the network tells of that, with the readers that the hub has, and behind each turn in which
-    /// something has come there those that the source gives. The journal gets its room first. Behind 2^64 - 1 turns it ends as where
-    /// the network can't be waited for.
+    /// Serves until standard input ends, where the network tells of that, with the readers and the pages that the hub has, and behind each
+    /// turn in which something has come there with those that the source gives. The journal gets its room first. Behind 2^64 - 1 turns it
+    /// ends as where the network can't be waited for.
     pub fn serve<N: Network, D: Device + NamedFile, R: Renderer + Drop, C: Clock, S: Source>(
         &mut self,
         rt: &C,
@@ -127,14 +131,18 @@ impl Server {
         ensures ready { OnOk result (IsReady D.seen D.may_leave D.failed D.stale saved.new) }
         ensures settled { (config : StoreState)
             → IsSettled D.seen D.may_leave D.failed D.stale config saved.old
-            → OnOk result (IsSettled D.seen D.may_leave D.failed D.stale config saved.new) }
+            → AreAllOfCalls (S.answered source.new)
+            → OnOk result (IsSettledInForce D.seen D.may_leave D.failed D.stale
+            (S.answered source.new) config saved.new) }
         ensures any_moment { (s : LeadsWith (S.answered source.new) (R.page saved.old.hub.0)
             saved.old.hub.1 saved.new.hub.1)
             × IsServed s.run (N.came net.new) (N.gone net.new)
             × ((config : StoreState) → AreKnown D.seen
             → IsSettled D.seen D.may_leave D.failed D.stale config saved.old
+            → AreAllOfCalls (S.answered source.new)
             → CrashesLeave D.seen D.moment D.left_since
-            (RestoresFront config (R.page saved.old.hub.0) saved.old.hub.1 s.run)
+            (RestoresFrontBy (IsInForce (S.answered source.new) config)
+            (R.page saved.old.hub.0) saved.old.hub.1 s.run)
             saved.old.journal saved.new.journal) }
     {
         keep_room(self.heap, saved, RESERVE + SPARE)?;
@@ -147,7 +155,7 @@ impl Server {
         Err(ServeFault::Socket)
     }
 
-    /// One turn, and behind it the readers that the source gives, where something has come on standard input. True: it has ended.
+    /// One turn, and behind it what the source gives, where something has come on standard input. True: it has ended.
     fn go_on<N: Network, D: Device + NamedFile, R: Renderer + Drop, C: Clock, S: Source>(
         &mut self,
         rt: &C,
@@ -159,12 +167,11 @@ impl Server {
         requires all { IsAllSaved saved.old }
         requires ready { IsReady D.seen D.may_leave D.failed D.stale saved.old }
         requires free { AreFree saved.old.hub.1.given (N.is_free net.old) }
-        ensures goes { GoesOnWith R.page N.came N.gone N.wakes N.is_free (S.answered source.new)
-            saved.old.hub saved.new.hub net.old net.new self.old.peers self.new.peers }
         ensures keeps { StayAnswered (S.answered source.old) (S.answered source.new) }
         ensures takes { IfOk result (λ has_ended. has_ended ≡ false
-            → next.new.hears_input ≡ true → (before : ReaderTable)
-            × AreTaken (S.answered source.new) before saved.new.hub.1.readers) }
+            → next.new.hears_input ≡ true → (before : World)
+            × IsTaken D.seen D.may_leave D.failed D.stale (S.answered source.new)
+            (S.told source.new) before saved.new.hub.1 saved.new.journal) }
         ensures bound { map.len self.old.peers ≤ self.old.door.most
             → map.len self.new.peers ≤ self.old.door.most }
         ensures most { self.new.door.most ≡ self.old.door.most }
@@ -174,12 +181,17 @@ impl Server {
         ensures ready { OnOk result (IsReady D.seen D.may_leave D.failed D.stale saved.new) }
         ensures settled { (config : StoreState)
             → IsSettled D.seen D.may_leave D.failed D.stale config saved.old
-            → OnOk result (IsSettled D.seen D.may_leave D.failed D.stale config saved.new) }
-        ensures any_moment { (config : StoreState) → AreKnown D.seen
+            → AreAllOfCalls (S.answered source.new)
+            → OnOk result (IsSettledInForce D.seen D.may_leave D.failed D.stale
+            (S.answered source.new) config saved.new) }
+        ensures any_moment { (s : GoesOnWith R.page N.came N.gone N.wakes N.is_free
+            (S.answered source.new) saved.old.hub saved.new.hub net.old net.new
+            self.old.peers self.new.peers)
+            × ((config : StoreState) → AreKnown D.seen
             → IsSettled D.seen D.may_leave D.failed D.stale config saved.old
             → CrashesLeave D.seen D.moment D.left_since
-            (RestoresEither config saved.old.hub.1 saved.new.hub.1)
-            saved.old.journal saved.new.journal }
+            (RestoresFront config (R.page saved.old.hub.0) saved.old.hub.1 s.leads.run)
+            saved.old.journal saved.new.journal) }
     {
         if self.turn(rt, net, saved, next)? {
             return Ok(true);
@@ -188,7 +200,7 @@ impl Server {
         if !next.hears_input() {
             return Ok(false);
         }
-        take_readers(source, saved);
+        take_given(self.heap, source, saved)?;
         Ok(false)
     }
 
@@ -405,29 +417,77 @@ impl Server {
     }
 }
 
-/// Has the hub go by the readers that the source gives, where it gives any.
-fn take_readers<S: Source, D: Device, R: Renderer + Drop>(
+/// Has the hub go by the readers and the pages that the source gives, where it gives any, and tells it what came of them.
+fn take_given<S: Source, D: Device, R: Renderer + Drop>(
+    heap: Heap,
     source: &mut S,
     saved: &mut SavedHub<D, R>,
-)
+) -> Result<(), ServeFault>
+    requires all { IsAllSaved saved.old }
+    requires ready { IsReady D.seen D.may_leave D.failed D.stale saved.old }
     ensures quiet { LeadsQuietlyBy (IsOfServer (S.answered source.new)) (R.page saved.old.hub.0)
         saved.old.hub.1 saved.new.hub.1 }
     ensures keeps { StayAnswered (S.answered source.old) (S.answered source.new) }
-    ensures takes { AreTaken (S.answered source.new) saved.old.hub.1.readers
-        saved.new.hub.1.readers }
+    ensures takes { OnOk result (IsTaken D.seen D.may_leave D.failed D.stale
+        (S.answered source.new) (S.told source.new) saved.old.hub.1 saved.new.hub.1
+        saved.new.journal) }
     ensures given { saved.new.hub.1.given ≡ saved.old.hub.1.given }
     ensures same { R.page saved.new.hub.0 ≡ R.page saved.old.hub.0 }
-    ensures site { IsSameSite saved.old.hub.1 saved.new.hub.1 }
-    ensures saved { StaysSaved D.seen D.may_leave D.failed D.stale saved.old saved.new }
-    ensures ready { IsReady D.seen D.may_leave D.failed D.stale saved.old
-        → IsReady D.seen D.may_leave D.failed D.stale saved.new }
-    ensures journal { saved.new.journal ≡ saved.old.journal }
-    ensures unsaved { saved.new.unsaved ≡ saved.old.unsaved }
+    ensures all { OnOk result (IsAllSaved saved.new) }
+    ensures ready { OnOk result (IsReady D.seen D.may_leave D.failed D.stale saved.new) }
+    ensures settled { (config : StoreState)
+        → IsSettled D.seen D.may_leave D.failed D.stale config saved.old
+        → AreAllOfCalls (S.answered source.new)
+        → OnOk result (IsSettledInForce D.seen D.may_leave D.failed D.stale
+        (S.answered source.new) config saved.new) }
+    ensures any_moment { (config : StoreState) (begin : World)
+        → IsSaved D.seen D.may_leave D.failed D.stale config begin saved.old
+        → CrashesLeave D.seen D.moment D.left_since
+        (Restores config begin) saved.old.journal saved.new.journal }
 {
-    let Some(readers) = source.hear() else {
-        return;
+    let Some(given) = source.hear(saved.media()) else {
+        return Ok(());
     };
-    saved.set_readers(readers);
+    let outcome = reload(heap, saved, given)?;
+    source.tell(outcome);
+    Ok(())
+}
+
+/// Has the hub go by these pages and these readers, and answers what came of that: where it is refused all is as before.
+fn reload<D: Device, R: Renderer + Drop>(
+    heap: Heap,
+    saved: &mut SavedHub<D, R>,
+    given: Given,
+) -> Result<Result<Reloaded, Refusal>, ServeFault>
+    requires all { IsAllSaved saved.old }
+    requires ready { IsReady D.seen D.may_leave D.failed D.stale saved.old }
+    ensures quiet { LeadsQuietlyBy (IsOfGiven given) (R.page saved.old.hub.0)
+        saved.old.hub.1 saved.new.hub.1 }
+    ensures outcome { IfOk result (λ outcome. IsOutcome D.seen D.may_leave D.failed D.stale
+        saved.old.hub.1 saved.new.hub.1 saved.new.journal given outcome) }
+    ensures given { saved.new.hub.1.given ≡ saved.old.hub.1.given }
+    ensures same { R.page saved.new.hub.0 ≡ R.page saved.old.hub.0 }
+    ensures all { OnOk result (IsAllSaved saved.new) }
+    ensures ready { OnOk result (IsReady D.seen D.may_leave D.failed D.stale saved.new) }
+    ensures settled { (config : StoreState)
+        → IsSettled D.seen D.may_leave D.failed D.stale config saved.old
+        → IsOfCalls given.pages.site → IfOk result (λ outcome.
+        IsSettled D.seen D.may_leave D.failed D.stale (config_behind config given outcome)
+        saved.new) }
+    ensures any_moment { (config : StoreState) (begin : World)
+        → IsSaved D.seen D.may_leave D.failed D.stale config begin saved.old
+        → CrashesLeave D.seen D.moment D.left_since
+        (Restores config begin) saved.old.journal saved.new.journal }
+{
+    let Given { readers, pages } = given;
+    match saved.reload(heap, pages) {
+        Ok(reloaded) => {
+            saved.set_readers(readers);
+            Ok(Ok(reloaded))
+        }
+        Err(ReloadFault::Refused(refusal)) => Ok(Err(refusal)),
+        Err(ReloadFault::Ends(fault)) => Err(ServeFault::from(fault)),
+    }
 }
 
 /// The time; where the clock can't be asked, this one, so that no time has passed.

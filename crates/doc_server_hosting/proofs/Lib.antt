@@ -1,3 +1,0 @@
-mod Hosted
-mod Joining
-mod Ready

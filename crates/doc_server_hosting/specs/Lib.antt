@@ -1,3 +1,0 @@
-pub mod Hostings
-pub mod Hosts
-pub mod Rooms
