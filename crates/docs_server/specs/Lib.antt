@@ -3,4 +3,5 @@ pub mod Linting
 pub mod Listening
 pub mod Moving
 pub mod NamedDevices
+pub mod Reloading
 pub mod Serving

@@ -6,7 +6,7 @@ ghost use Rattle.docs_server.specs.Listening.{HasOthers, HasOwnPaths, IsOwn};
 
 use crate::files::{Pages, Site, document_of, read_file, site_of};
 use crate::folder_rows::{FolderRows, read_folders};
-use crate::gathered_media::gathered_media;
+use crate::gathered_media::{gathered_media, paths_of_media};
 use crate::listen_fault::ListenFault;
 use crate::told_faults::tell_faults;
 use crate::written::{Written, written_in};
@@ -14,6 +14,7 @@ use doc_media::media::Media;
 use doc_page_parts::failure::Memory;
 use doc_page_parts::heap::{Heap, Vec};
 use doc_page_parts::list::List;
+use doc_page_parts::path::Path;
 use doc_server_config::bad_file::BadFile;
 use doc_server_config::bounds::Bounds;
 use doc_server_config::config::SiteConfig;
@@ -32,6 +33,8 @@ pub struct Bounded {
     pub bounds: Bounds,
     /// The media of its folders, where one of them asks for media.
     pub media: Option<Media>,
+    /// The paths of these media.
+    pub media_paths: List<Path>,
     /// The moves that are made on its pages, once they stand.
     pub moves: List<Move>,
     /// The bad files that its folders pass over.
@@ -44,6 +47,8 @@ pub struct Bounded {
 struct Gathered {
     pages: Pages,
     media: Option<Media>,
+    /// The paths of the media.
+    media_paths: List<Path>,
     /// The moves that are made on them.
     moves: List<Move>,
     /// The bad files that the folders pass over.
@@ -91,6 +96,7 @@ pub fn bounded_of<R: AllocGlobal + Clone + Drop + Files>(
     let Gathered {
         pages,
         media,
+        media_paths,
         moves,
         passed,
     } = with_folders(rt, heap, pages, folders.get(), bounds.media_bytes)?;
@@ -98,6 +104,7 @@ pub fn bounded_of<R: AllocGlobal + Clone + Drop + Files>(
         site: Site { pages, entities },
         bounds,
         media,
+        media_paths,
         moves,
         passed,
         names,
@@ -212,6 +219,7 @@ fn with_folders<R: AllocGlobal + Files + Clone + Drop>(
     } = found;
     check_overlap(heap, &rows, &others)?;
     check_media(heap, &rows, &media)?;
+    let media_paths = paths_of_media(heap, &media)?;
     let media = gathered_media(heap, folders, media)?;
     let pages = joined(rows, others)?;
     let moves = free_moves(heap, pages.get(), moves)?;
@@ -229,6 +237,7 @@ fn with_folders<R: AllocGlobal + Files + Clone + Drop>(
             texts,
         },
         media,
+        media_paths,
         moves: List::new(moves),
         passed: List::new(bad),
     })

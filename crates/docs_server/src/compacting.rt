@@ -4,8 +4,7 @@ use crate::bounded::{Bounded, read_bounded};
 use crate::files::{Pages, Site};
 use crate::held::hold;
 use crate::listen_fault::ListenFault;
-use crate::moving::make_moves;
-use crate::site_store::site_store;
+use crate::site_store::configured_store;
 use crate::status::status_of;
 use crate::system_place::SystemPlace;
 use crate::told_folders::tell_passed;
@@ -51,6 +50,7 @@ fn pages_of<P: AllocGlobal + Clone + Drop + Eprint + Files>(
         site,
         bounds: _,
         media: _,
+        media_paths: _,
         moves,
         passed,
         names: _,
@@ -68,8 +68,7 @@ fn compact_over<P: AllocGlobal + Clock + Eprint + Files<File = File>>(
     command: &Compact<'_>,
 ) -> Result<(), ListenFault> {
     let heap = rt.alloc();
-    let mut config = site_store(heap, &pages.config, pages.texts.get())?;
-    make_moves(&mut config, moves)?;
+    let config = configured_store(heap, pages, moves)?;
     compact_beside(rt, heap, pages, moves, &config, command)
 }
 
@@ -82,8 +81,7 @@ fn compact_beside<P: AllocGlobal + Clock + Eprint + Files<File = File>>(
     config: &Store,
     command: &Compact<'_>,
 ) -> Result<(), ListenFault> {
-    let mut site = site_store(heap, &pages.config, pages.texts.get())?;
-    make_moves(&mut site, moves)?;
+    let mut site = configured_store(heap, pages, moves)?;
     compact_held(rt, heap, config, &mut site, command)
 }
 

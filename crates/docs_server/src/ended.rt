@@ -2,12 +2,12 @@
 
 use crate::listen_fault::ListenFault;
 use doc_page::renderer::Renderer;
-use doc_server_hosting::ended::Ended;
 use doc_server_journal::device::Device;
-use doc_server_network::network::Network;
-use doc_server_network::watch::Watch;
 use doc_server_serving::fault::ServeFault;
+use doc_server_serving::hosting::ended::Ended;
 use doc_server_serving::named_file::NamedFile;
+use doc_server_serving::net::network::Network;
+use doc_server_serving::net::watch::Watch;
 
 /// The status to end with, where the server was told to stop. Where it can't write and its journal isn't found under its name, that is why.
 pub fn ended_status<D: Device + NamedFile, N: Network, R: Renderer + Drop, W: Watch>(

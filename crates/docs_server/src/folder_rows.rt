@@ -4,13 +4,14 @@ ghost use Rattle.std.specs.Prelude.{◌≡◌};
 ghost use Rattle.docs_server.specs.Listening.{row_of};
 
 use crate::listen_fault::ListenFault;
+use crate::resolved_folder::read_resolved;
 use doc_page_parts::failure::Memory;
 use doc_page_parts::heap::{Heap, Vec};
 use doc_page_parts::list::List;
 use doc_page_parts::path::Path;
 use doc_server_config::bad_file::BadFile;
 use doc_server_config::folder::Folder;
-use doc_server_config::folder_pages::{FolderFile, FolderMedium, FolderPage, read_folder};
+use doc_server_config::folder_pages::{FolderFile, FolderMedium, FolderPage};
 use doc_server_config::folder_rules::FolderRules;
 use doc_server_config::page_row::{PageRow, Source};
 use doc_server_config::readme::{Move, index_move};
@@ -45,7 +46,7 @@ pub fn read_folders<R: AllocGlobal + Files + Clone + Drop>(
         bad: Vec::new(heap),
     };
     for folder in folders {
-        let files = read_folder(rt, heap, folder, &mut taken)?;
+        let files = read_resolved(rt, heap, folder, &mut taken)?;
         let skips = all || folder.rules.skips;
         let rules = FolderRules {
             skips,

@@ -16,9 +16,9 @@ use doc_page_parts::text::Text;
 use doc_server_config::readme::Move;
 use doc_server_journal_records::read_error::ReadError;
 use doc_server_journal_records::reading::read;
-use doc_server_lint::finding::Finding;
-use doc_server_lint::place::Place;
-use doc_server_lint::what::What;
+use doc_server_lint_faults::finding::Finding;
+use doc_server_lint_faults::place::Place;
+use doc_server_lint_faults::what::What;
 use doc_server_restore::fault::RestoreFault;
 use doc_server_restore::restore::restore;
 use doc_server_streams::fault::Fault;
@@ -114,6 +114,7 @@ fn pages_of<R: AllocGlobal + Clone + Drop + Files>(
         site,
         bounds: _,
         media: _,
+        media_paths: _,
         moves,
         passed: _,
         names: _,

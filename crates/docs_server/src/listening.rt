@@ -2,7 +2,7 @@
 
 ghost use Rattle.std.specs.Prelude.{◌≡◌, ◌<◌, ◌≤◌, Ok, IfOk, option_copied};
 ghost use Rattle.std.specs.FinMap as map;
-ghost use Rattle.doc_server_hosting.specs.Hostings.{IsHosted};
+ghost use Rattle.doc_server_serving.specs.Hostings.{IsHosted};
 ghost use Rattle.doc_server_serving.specs.Wirings.{AreWoken};
 
 use crate::access_log::AccessLog;
@@ -31,15 +31,15 @@ use doc_server_arguments::log_form::LogForm;
 use doc_server_config::bounds::Bounds;
 use doc_server_config::config::SiteConfig;
 use doc_server_config::readme::Move;
-use doc_server_hosting::ended::Ended;
-use doc_server_hosting::fault::HostingFault;
-use doc_server_hosting::host::Host;
-use doc_server_hosting::hosting::host_site;
-use doc_server_hosting::terms::Terms;
 use doc_server_log_names::lines::{Askers, Lines};
 use doc_server_log_names::names::Names;
-use doc_server_network::watch::Watch;
+use doc_server_serving::hosting::ended::Ended;
+use doc_server_serving::hosting::fault::HostingFault;
+use doc_server_serving::hosting::host::Host;
+use doc_server_serving::hosting::host_site;
+use doc_server_serving::hosting::terms::Terms;
 use doc_server_serving::limits::Limits;
+use doc_server_serving::net::watch::Watch;
 use doc_server_serving::source::Source;
 use doc_server_status::standing::Standing;
 use doc_server_streams::fault::Fault;
@@ -83,6 +83,7 @@ pub fn run_listen<
                 site,
                 bounds,
                 media,
+                media_paths,
                 moves,
                 passed,
                 names,
@@ -92,7 +93,8 @@ pub fn run_listen<
             let Site { pages, entities } = site;
             let login = takes_logins(&pages.config);
             let form = lines_of(command.log, Askers { names, login });
-            let mut source = Reloading::new(rt, rt.alloc(), command.config, document, &shared);
+            let media_count = media_paths.get().len();
+            let mut source = Reloading::new(rt, command.config, document, media_count, &shared);
             let renderer: CommonMark<L> = CommonMark::with_front(
                 entities,
                 blank,
@@ -163,7 +165,7 @@ fn listen_with<
 }
 
 /// Serves a hub that has the pages of the configuration, on a host, with the journal that the arguments name, if they do, and with the
-/// readers that a source gives. Somebody may watch.
+/// readers and pages that a source gives. Somebody may watch.
 fn listen_on<H: Host, R: Renderer + Drop, C: Clock, W: Watch + Drop, S: Source>(
     rt: &C,
     heap: Heap,

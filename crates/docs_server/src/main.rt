@@ -22,6 +22,7 @@ mod moving;
 mod named_device;
 mod reload_fault;
 mod reloading;
+mod resolved_folder;
 mod serving;
 mod shared;
 mod site_store;

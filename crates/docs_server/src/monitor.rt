@@ -2,8 +2,8 @@
 
 use doc_page_parts::bytes::Bytes;
 use doc_page_parts::heap::{Heap, Vec};
-use doc_server_network::came::Came;
-use doc_server_network::retrying::{read_once, write_once};
+use doc_server_serving::net::came::Came;
+use doc_server_serving::net::retrying::{read_once, write_once};
 use doc_server_status::counters::Counters;
 use doc_server_status::door::{looks_at_metrics, status_reply};
 use mio::net::TcpStream;

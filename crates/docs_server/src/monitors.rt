@@ -2,8 +2,8 @@
 
 use crate::monitor::Monitor;
 use doc_page_parts::heap::{BTreeMap, Heap, Vec};
-use doc_server_network::handed::Handed;
-use doc_server_network::net_fault::NetFault;
+use doc_server_serving::net::handed::Handed;
+use doc_server_serving::net::net_fault::NetFault;
 use doc_server_status::counters::Counters;
 use doc_server_status::standing::Standing;
 use mio::net::TcpListener;

@@ -12,7 +12,7 @@ pub enum ReloadFault {
     /// A server wouldn't start with the file.
     #[error("{0}")]
     Config(ListenFault),
-    /// Something else than readers has changed in it: what this key says.
+    /// Something else than readers and pages has changed in it: what this key says.
     #[error("needs a restart: `{}`", .0.get())]
     Changed(Text),
 }

@@ -1,35 +1,51 @@
-//! The readers of a configuration, read anew where a line on standard input asks for that.
+//! A configuration, read anew where a line on standard input asks for that.
 
-ghost use Rattle.std.specs.Prelude.{◌≡◌, OnErr};
+ghost use Rattle.std.specs.Prelude.{◌≡◌, IfOk, None, OnErr};
+ghost use Rattle.docs_server.specs.Reloading.{IsConfigured};
 
-use crate::bounded::written_of;
-use crate::files::read_file;
+use crate::bounded::{Bounded, bounded_of, opened_of, written_of};
+use crate::files::{Pages, Site, read_file};
+use crate::gathered_media::are_served;
 use crate::listen_fault::ListenFault;
 use crate::reload_fault::ReloadFault;
 use crate::shared::Shared;
+use crate::site_store::configured_store;
 use crate::told_faults::tell_refusal;
+use crate::told_folders::tell_passed;
 use crate::written::Written;
+use doc_media::media::Media;
 use doc_page_parts::failure::Memory;
 use doc_page_parts::heap::Heap;
 use doc_page_parts::text::Text;
 use doc_server_config::document::Document;
+use doc_server_log_names::names::Names;
+use doc_server_serving::given::Given;
+use doc_server_serving::net::reload_fault::Refusal;
+use doc_server_serving::net::reloaded::Reloaded;
 use doc_server_serving::source::Source;
 use doc_server_streams::input::Input as _;
 use doc_server_streams::read_from::ReadFrom;
-use doc_store::readers::Readers;
 use std::rt::Files;
 use toml::{Table, Value};
 
 /// How many bytes of standard input are read at once.
 const MOST_BYTES: usize = 4_096;
 
-/// The line that asks for the readers of the file.
+/// The line that asks for a reload.
 const RELOAD: &str = "reload";
 
 /// The key of the readers in a configuration.
 const READERS: &str = "reader";
 
-/// A configuration that is served, and whose readers can be read anew.
+/// The keys of its pages.
+const PAGES: &str = "page";
+
+const FOLDERS: &str = "folder";
+
+/// The key of a folder that tells that its media have changed.
+const MEDIA: &str = "media";
+
+/// A configuration that is served, and that can be read anew.
 #[derive(Drop)]
 pub struct Reloading<'a, P> {
     rt: &'a P,
@@ -38,33 +54,42 @@ pub struct Reloading<'a, P> {
     name: &'a str,
     /// What it is as it is served.
     document: Document,
+    /// How many media are served.
+    media_count: usize,
+    /// What was given, until it is told what came of it.
+    given: Option<Pending>,
+    /// How often something was given.
+    count: u64,
     /// Where the log finds the names of new readers, and the door what stands.
     shared: &'a Shared,
 }
 
-/// What a reload gives.
+/// What was given, and isn't served yet.
 #[derive(Drop)]
-enum Reloaded {
-    /// The file says what is served.
-    Same,
-    /// Other readers, and how many.
-    Others(Readers, usize),
+struct Pending {
+    document: Document,
+    names: Names,
 }
 
-impl<'a, P: Eprint + Files + Input> Reloading<'a, P> {
-    /// A configuration that is served, the file of this name.
+impl<'a, P: AllocGlobal + Clone + Drop + Eprint + Files + Input> Reloading<'a, P> {
+    /// A configuration that is served, the file of this name, beside so many media.
     pub fn new(
         rt: &'a P,
-        heap: Heap,
         name: &'a str,
         document: Document,
+        media_count: usize,
         shared: &'a Shared,
-    ) -> Reloading<'a, P> {
+    ) -> Reloading<'a, P>
+        ensures { result.count ≡ 0 }
+    {
         Reloading {
             rt,
-            heap,
+            heap: rt.alloc(),
             name,
             document,
+            media_count,
+            given: None,
+            count: 0,
             shared,
         }
     }
@@ -87,13 +112,15 @@ impl<'a, P: Eprint + Files + Input> Reloading<'a, P> {
         asks
     }
 
-    /// The readers of the file as it is now. Where it is refused all stays as it was.
-    fn reload(&mut self) -> Result<Reloaded, ReloadFault>
+    /// What the file and those that it names give as they are now. Where it is refused all stays as it was.
+    fn reload(&mut self, served: &Option<Media>) -> Result<Given, ReloadFault>
+        ensures given { IfOk result (λ given. IsConfigured given.pages) }
+        ensures count { self.new.count ≡ self.old.count }
         ensures refused { OnErr result (self.new.document ≡ self.old.document) }
     {
         let text = read_file(self.rt, self.heap, self.name).map_err(ListenFault::from)?;
         match written_of(self.heap, &text) {
-            Ok((document, written)) => self.take(document, written),
+            Ok((document, written)) => self.read_all(served, document, written),
             Err(fault) => {
                 tell_refusal(self.rt, self.heap, self.name, &text);
                 Err(ReloadFault::Config(fault))
@@ -101,47 +128,113 @@ impl<'a, P: Eprint + Files + Input> Reloading<'a, P> {
         }
     }
 
-    /// The readers of a document, which is the one that is served from here on. Where something else in it has changed they aren't taken.
-    fn take(&mut self, document: Document, written: Written) -> Result<Reloaded, ReloadFault>
+    /// What a document and the files that it names give. Where something else than readers and pages has changed it is refused.
+    fn read_all(
+        &mut self,
+        served: &Option<Media>,
+        document: Document,
+        written: Written,
+    ) -> Result<Given, ReloadFault>
+        ensures given { IfOk result (λ given. IsConfigured given.pages) }
+        ensures count { self.new.count ≡ self.old.count }
         ensures refused { OnErr result (self.new.document ≡ self.old.document) }
     {
         if let Some(key) = changed_key(self.heap, &self.document.table, &document.table)? {
             return Err(ReloadFault::Changed(key));
         }
-        if has_same_readers(&self.document.table, &document.table) {
-            return Ok(Reloaded::Same);
-        }
-        let count = reader_count(&document.table);
-        let Written {
-            config,
+        let opened = opened_of(self.rt, self.heap, written)?;
+        let bounded = bounded_of(self.rt, self.heap, opened)?;
+        self.take(served, document, bounded)
+    }
+
+    /// What a configuration gives, whose files are read. Where other media stand than are served it is refused.
+    fn take(
+        &mut self,
+        served: &Option<Media>,
+        document: Document,
+        bounded: Bounded,
+    ) -> Result<Given, ReloadFault>
+        ensures given { IfOk result (λ given. IsConfigured given.pages) }
+        ensures count { self.new.count ≡ self.old.count }
+        ensures refused { OnErr result (self.new.document ≡ self.old.document) }
+    {
+        let Bounded {
+            site,
             bounds: _,
-            folders: _,
+            media,
+            media_paths,
+            moves,
+            passed,
             names,
-        } = written;
+        } = bounded;
+        let Site { pages, entities: _ } = site;
+        let paths = media_paths.get();
+        if paths.len() != self.media_count || !are_served(served, &media, paths) {
+            return Err(ReloadFault::Changed(Text::copy_of(self.heap, MEDIA)?));
+        }
+        tell_passed(self.rt, passed.get());
+        let store = configured_store(self.heap, &pages, moves.get()).map_err(ListenFault::from)?;
+        let Pages { config, texts: _ } = pages;
+        self.given = Some(Pending { document, names });
+        Ok(Given {
+            readers: config.readers,
+            pages: store,
+        })
+    }
+
+    /// Tells what came of a reload: it is served from here on.
+    fn tell_served(&mut self, reloaded: Reloaded)
+        ensures count { self.new.count ≡ self.old.count }
+        ensures given { self.new.given ≡ None }
+    {
+        let has_other_readers = self.serve_given();
+        let Reloaded {
+            put,
+            removed,
+            records,
+        } = reloaded;
+        if !has_other_readers && put == 0 && removed == 0 {
+            let _ = eprintln!(self.rt; "reload: nothing has changed");
+            return;
+        }
+        self.shared.tell_reload(true);
+        let readers = reader_count(&self.document.table);
+        let _ = eprintln!(self.rt;
+            "reload: {readers} readers, {put} pages put, {removed} removed (record {records})"
+        );
+    }
+
+    /// What was given is served from here on, and the log finds its readers' names. Answers whether the readers are others.
+    fn serve_given(&mut self) -> bool
+        ensures count { self.new.count ≡ self.old.count }
+        ensures given { self.new.given ≡ None }
+    {
+        let Some(Pending { document, names }) = self.given.take() else {
+            return false;
+        };
+        let has_changed = !has_same_readers(&self.document.table, &document.table);
         self.document = document;
         self.shared.names.set(Some(names));
-        Ok(Reloaded::Others(config.readers, count))
+        has_changed
     }
 }
 
-impl<P: Eprint + Files + Input> Source for Reloading<'_, P> {
-    ghost use Rattle.std.specs.Prelude.{⊤};
+impl<P: AllocGlobal + Clone + Drop + Eprint + Files + Input> Source for Reloading<'_, P> {
+    ghost use Rattle.std.specs.Prelude.{◌≡◌, ⊤, None};
+    ghost use Rattle.docs_server.specs.Reloading.{HasAnswered};
 
-    ghost answered = { λ _ _. ⊤ };
+    ghost answered = { λ r answer. HasAnswered r.count answer };
 
-    fn hear(&mut self) -> Option<Readers> {
+    ghost told = { λ r _. r.given ≡ None };
+
+    fn hear(&mut self, media: &Option<Media>) -> Option<Given> {
         if !self.is_asked() {
             return None;
         }
-        match self.reload() {
-            Ok(Reloaded::Same) => {
-                let _ = eprintln!(self.rt; "reload: nothing has changed");
-                None
-            }
-            Ok(Reloaded::Others(readers, count)) => {
-                self.shared.tell_reload(true);
-                let _ = eprintln!(self.rt; "reload: {count} readers");
-                Some(readers)
+        match self.reload(media) {
+            Ok(given) => {
+                self.count = self.count.saturating_add(1);
+                Some(given)
             }
             Err(fault) => {
                 self.shared.tell_reload(false);
@@ -151,12 +244,23 @@ impl<P: Eprint + Files + Input> Source for Reloading<'_, P> {
         }
     }
 
+    fn tell(&mut self, outcome: Result<Reloaded, Refusal>) {
+        match outcome {
+            Ok(reloaded) => self.tell_served(reloaded),
+            Err(refusal) => {
+                self.given = None;
+                self.shared.tell_reload(false);
+                let _ = eprintln!(self.rt; "reload refused: {refusal}");
+            }
+        }
+    }
+
     fn note(&mut self, pages: usize, journal_bytes: Option<usize>) {
         self.shared.tell_standing(pages, journal_bytes);
     }
 }
 
-/// The first key, but that of the readers, that two documents don't have alike.
+/// The first key, but those of the readers and pages, that two documents don't have alike.
 fn changed_key(heap: Heap, old: &Table, new: &Table) -> Result<Option<Text>, Memory> {
     match key_apart(heap, old, new)? {
         Some(key) => Ok(Some(key)),
@@ -164,14 +268,19 @@ fn changed_key(heap: Heap, old: &Table, new: &Table) -> Result<Option<Text>, Mem
     }
 }
 
-/// The first key of a document, but that of the readers, that another doesn't have so.
+/// The first key of a document, but those of the readers and pages, that another doesn't have so.
 fn key_apart(heap: Heap, document: &Table, other: &Table) -> Result<Option<Text>, Memory> {
     'keys: for (key, value) in document.iter() {
-        if key.as_str() != READERS && !has(other, key.as_str(), value) {
+        if !is_reloaded(key.as_str()) && !has(other, key.as_str(), value) {
             return Ok(Some(Text::copy_of(heap, key.as_str())?));
         }
     }
     Ok(None)
+}
+
+/// Whether a reload reads anew what stands under this key.
+fn is_reloaded(key: &str) -> bool {
+    key == READERS || key == PAGES || key == FOLDERS
 }
 
 /// Whether a document has this value under the key.

@@ -4,16 +4,29 @@ ghost use Rattle.std.specs.Prelude.{◌≡◌, ◌≢◌, Some, None, Ok, Err, I
 ghost use Rattle.doc_hub.specs.Worlds.{is_capacity};
 ghost use Rattle.doc_server_restore.specs.Restores.{unstamped};
 ghost use Rattle.doc_server.specs.Sites.{site_world, text_of, texts_behind};
+ghost use Rattle.docs_server.specs.Reloading.{IsConfigured};
 ghost use Rattle.docs_server.specs.Compacting.{store_in, stored_page, stored_pages};
 
+use crate::files::Pages;
+use crate::moving::make_moves;
 use doc_page_parts::failure::Memory;
 use doc_page_parts::heap::Heap;
 use doc_page_parts::text::Text;
 use doc_server_config::config::SiteConfig;
 use doc_server_config::page_row::{PageRow, Source};
+use doc_server_config::readme::Move;
 use doc_server_restore::edits::Edits;
 use doc_server_streams::fault::Fault;
 use doc_store::store::Store;
+
+/// The pages of a configured site, behind the moves that are made on them, in a store of their own.
+pub fn configured_store(heap: Heap, pages: &Pages, moves: &[Move]) -> Result<Store, Fault>
+    ensures { IfOk result (λ store. IsConfigured store) }
+{
+    let mut store = site_store(heap, &pages.config, pages.texts.get())?;
+    make_moves(&mut store, moves)?;
+    Ok(store)
+}
 
 /// The store of the hub that a configuration makes, or what stops the program in its place.
 pub fn site_store(heap: Heap, config: &SiteConfig, texts: &[Text]) -> Result<Store, Fault>

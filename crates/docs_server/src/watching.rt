@@ -2,8 +2,8 @@
 
 use crate::access_log::AccessLog;
 use crate::monitors::Monitors;
-use doc_server_network::handed::Handed;
-use doc_server_network::watch::Watch;
+use doc_server_serving::net::handed::Handed;
+use doc_server_serving::net::watch::Watch;
 use std::rt::Clock;
 use std::time::Instant;
 
