@@ -14,7 +14,7 @@ import re
 
 import journals
 from listening import ANN, BOB, OWNER, READERS, BoundedHub, fault, given, journal_told, told
-from replies import bytes_of
+from replies import Hub, bytes_of
 from trial_lines import debug, write
 
 READ = 16_384  # what a read gives at most
@@ -157,7 +157,7 @@ class Saved:
     is added and synced, and a record is written, synced, opened and synced."""
 
     def __init__(self, file=b"", calls=MUCH, most=MUCH):
-        self.hub, self.texts, self.lines = BoundedHub(), [], b""
+        self.hub, self.texts, self.lines, self.config = BoundedHub(), [], b"", b""
         self.hub.readers = dict(READERS)
         self.device = journals.Device(file, calls, most)
         self.texts, last, end = journals.records(file) if file else ([], 0, -1)
@@ -300,14 +300,46 @@ def left_of(saved):
     return [("records", told(b"".join(again.texts))), *served(again, MUCH, len(file) + 3_000, asks)]
 
 
+class Reload:
+    """The pages of a configuration that are loaded between two turns."""
+
+    def __init__(self, config):
+        self.config = config
+
+    def __str__(self):
+        return f"reload {self.config.decode()}"
+
+    def made(self, saved):
+        """What is told of it: how many pages it has put and removed, with how many records, or why it is refused."""
+        old, new = Site(saved.config + b"".join(saved.texts)), Site()
+        if not all(map(new.make, self.config.decode().splitlines())):
+            return "no pages"
+        for record, text in enumerate(saved.texts, 1):
+            for line, edit in enumerate(text.decode().splitlines(), 1):
+                if not new.make(edit):
+                    return f"refused: journal record {record} refused, line {line}"
+        if (len(new.pages) + 1) * REMOVAL > saved.room():
+            return "refused: journal is full"
+        stays = {path for path in new.pages if path in old.pages and old.of(path)[1] == new.of(path)[1]}
+        saved.config, saved.hub.pages = self.config, {}
+        for path, (groups, text) in new.pages.items():
+            Hub.put(saved.hub, path, ",".join(groups), text)
+            saved.hub.pages[path].aliases = set(new.of(path)[1])
+        return (f"{sum(old.of(path) != new.of(path) for path in new.pages)} put, {len(old.pages.keys() - stays)} removed, "
+                f"{len(saved.texts)} records")
+
+
 def turns(saved, calls, most, *texts):
-    """Turns of one connection: each is a list of requests, or a text without a whole one."""
-    whole = ["".join(bytes_of(*request) for request in text) if isinstance(text, list) else text for text in texts]
+    """Turns of one connection: each is a list of requests, or a text without a whole one. A reload may stand between two."""
+    whole = ["".join(bytes_of(*request) for request in text) if isinstance(text, list) else str(text) for text in texts]
     call = " | ".join([f"turns {calls} {most}", *map(given, whole)])
     if not saved.is_begun:
         return [(call, "refused: no journal")]
     out, waiting, unread = "", [], 0
     for text, size in zip(texts, map(len, whole)):
+        if isinstance(text, Reload):
+            out += f"{text.made(saved)} | "
+            continue
         if unread + size > BACKLOG:
             return [(call, out + "refused: too many unread bytes")]
         waiting, unread, replies = waiting + (text if isinstance(text, list) else []), unread + size, ""
@@ -356,6 +388,35 @@ def saves():
     saved = Saved(file, most=0)
     [(call, answer)] = turns(saved, MUCH, 0, half, half, "x")
     return [*lines, holds(file), (call.replace(half, f"\\{{{len(half)} x}}"), answer)]
+
+
+def reloads():
+    """Pages that are loaded anew between two turns: what the journal's edits make of them stands then."""
+    asks = [(token, "GET", f"/page/{path}.md") for path in "abce" for token in (OWNER, BOB)]
+    put, remove = (OWNER, "PUT", "/page/c.md?groups=staff", "Anew"), (OWNER, "DELETE", "/page/e.md")
+    saved = Saved()
+    lines = ["# Pages that are loaded anew, again, and others, beside edits of an owner: an edit wins over what is loaded.", holds(b"")]
+    grows = 3 * [[]]
+    lines += turns(saved, MUCH, MUCH, *grows, asks, Reload(CONFIG), asks, Reload(CONFIG), [put, remove], Reload(CONFIG), asks,
+                   Reload(b"put a.md ops Other\nput b.md staff One\nmove b.md k.md\n"), asks, Reload(b""), asks)
+    lines += of_file(saved)
+    lines += ["# The journal that a server was begun with is read anew: its pages stand over those that are loaded, and moved ones where they went."]
+    texts = [*PAGES, b"move b.md k.md\nput d.md qa Four\n"]
+    file = journals.written(texts) + bytes(journals.RESERVE)
+    saved = Saved(file)
+    lines += [holds(file), *turns(saved, MUCH, MUCH, asks, Reload(b"put a.md - Zero\nput e.md staff Five\n"), asks, Reload(b"")), *of_file(saved)]
+    lines += ["# A record that can't be made over the pages refuses them, and all is as it was."]
+    texts = [b"put a.md staff One\n", b"put b.md ops Two\nmove b.md c.md\n"]
+    file = journals.written(texts) + bytes(journals.RESERVE)
+    saved = Saved(file)
+    lines += [holds(file), *turns(saved, MUCH, MUCH, asks, Reload(CONFIG), asks, Reload(b"put z.md - Last\n"), asks)]
+    lines += ["# A journal without room for the removal of each page refuses them; with room for it they are loaded."]
+    for zeros in (6 * REMOVAL - 1, 6 * REMOVAL):
+        file = journals.written(PAGES) + bytes(zeros)
+        saved = Saved(file, most=0)
+        lines += [holds(file), *turns(saved, MUCH, 0, Reload(CONFIG + b"put f.md - Six\n"), [], Reload(CONFIG), asks)]
+    lines += ["# Edits that make no pages: nothing is loaded."]
+    return [*lines, holds(b""), *turns(Saved(), MUCH, MUCH, Reload(b"move a.md b.md\n"))]
 
 
 class Site:
@@ -507,4 +568,4 @@ def refusals(edits):
 
 
 if __name__ == "__main__":
-    write("serving", [line for part in (hosts(), serves(), saves(), compactions()) for line in [*part, ""]], "trial_site")
+    write("serving", [line for part in (hosts(), serves(), saves(), reloads(), compactions()) for line in [*part, ""]], "trial_site")

@@ -2,8 +2,8 @@
 use Rattle.std.proofs.Common.{◌≡◌, ◌∙◌, ℕ, List, [], Option, Some, None, IfSome, ap, refl, subst, sym}
 use Rattle.std.specs.FinMap as map
 use Rattle.std.specs.Ordering.{nat_cmp}
-use Rattle.doc_server_network.specs.Memories.{IsUntouched, has_none, memory_came, memory_gone}
-use Rattle.doc_server_network.specs.Networks.{Rests, Stays}
+use Rattle.doc_server_serving.specs.Memories.{IsUntouched, has_none, memory_came, memory_gone}
+use Rattle.doc_server_serving.specs.Networks.{Rests, Stays}
 use Rattle.doc_server_network.specs.declared.memory_network.MemoryNetwork.{MemoryNetwork}
 use Rattle.doc_server_serving.specs.Invariants.{HasServedNobody}
 use Rattle.doc_server_serving.specs.Wirings.{IsNew, Peer, Table}

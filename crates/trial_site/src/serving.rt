@@ -16,8 +16,8 @@ mod compacting;
 mod guests;
 mod held;
 mod hosted;
-mod no_readers;
 mod notes;
+mod nothing_given;
 mod turning;
 
 use crate::listen::journals::journal_called;

@@ -4,7 +4,7 @@ ghost use Rattle.std.specs.Prelude.{◌≡◌, List, ℕ, [], false, IfSome};
 ghost use Rattle.doc_server_journal.specs.Devices.{IsFresh};
 ghost use Rattle.doc_server_journal.specs.Journals.{IsOpen};
 ghost use Rattle.doc_server_journal.specs.Memories.{has_failed, memory_leaves, memory_seen, memory_stale};
-ghost use Rattle.doc_server_network.specs.Saved.{IsAllSaved, IsReady};
+ghost use Rattle.doc_server_serving.specs.Saved.{IsAllSaved, IsReady};
 
 use doc_hub::hub::Hub;
 use doc_page::renderer::Renderer;
@@ -16,12 +16,12 @@ use doc_server_journal::memory::MemoryDevice;
 use doc_server_journal::opening::Opened;
 use doc_server_journal::torn::Unkept;
 use doc_server_journal_records::header::Identity;
-use doc_server_network::mio_network::MioNetwork;
-use doc_server_network::saved_hub::SavedHub;
 use doc_server_restore::edits::Edits;
 use doc_server_restore::restore::restore;
 use doc_server_serving::fault::ServeFault;
 use doc_server_serving::limits::Limits;
+use doc_server_serving::net::mio_network::MioNetwork;
+use doc_server_serving::net::saved_hub::SavedHub;
 use doc_server_serving::next_turn::NextTurn;
 use doc_server_serving::room::keep_room;
 use doc_server_serving::server::Server;
@@ -54,7 +54,7 @@ pub struct Served<R: Renderer + Drop> {
 impl<R: Renderer + Drop> Model for Served<R> {
     ghost use Rattle.std.specs.Prelude.{◌≡◌, ⊤, None};
     ghost use Rattle.doc_server_journal.specs.Memories.{has_failed, memory_leaves, memory_seen, memory_stale};
-    ghost use Rattle.doc_server_network.specs.Saved.{IsAllSaved, IsReady};
+    ghost use Rattle.doc_server_serving.specs.Saved.{IsAllSaved, IsReady};
 
     ghost Value = { ⊤ };
 

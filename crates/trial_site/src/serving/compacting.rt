@@ -142,7 +142,7 @@ fn sites_of(heap: Heap, lines: &str) -> Result<Option<Sites>, Memory> {
 }
 
 /// The site that the edits of lines make of none. None: they make none.
-fn site_of(heap: Heap, lines: &str) -> Result<Option<Store>, Memory> {
+pub fn site_of(heap: Heap, lines: &str) -> Result<Option<Store>, Memory> {
     let record = Bytes::copy_of(heap, lines.as_bytes())?;
     let mut site = Store::new(heap);
     let restored = restore_one(heap, &mut site, record);

@@ -7,14 +7,14 @@
 //!   each call that may move bytes comes behind one that moves none.
 
 ghost use Rattle.std.specs.Prelude.{ℕ, IfOk, IfSome};
-ghost use Rattle.doc_server_network.specs.Memories.{IsUntouched};
+ghost use Rattle.doc_server_serving.specs.Memories.{IsUntouched};
 
 use doc_page_parts::bytes::Bytes;
 use doc_page_parts::failure::Memory;
 use doc_page_parts::heap::Heap;
-use doc_server_network::guest::Guest;
-use doc_server_network::memory_network::MemoryNetwork;
-use doc_server_network::script::Script;
+use doc_server_serving::net::guest::Guest;
+use doc_server_serving::net::memory_network::MemoryNetwork;
+use doc_server_serving::net::script::Script;
 
 /// What a text says of a peer.
 #[derive(Clone, Copy)]

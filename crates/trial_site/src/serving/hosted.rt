@@ -11,8 +11,8 @@
 
 ghost use Rattle.std.specs.Prelude.{ℕ, [], None};
 ghost use Rattle.doc_server_journal.specs.Memories.{has_failed, memory_leaves, memory_seen, memory_stale};
-ghost use Rattle.doc_server_network.specs.Memories.{IsUntouched};
-ghost use Rattle.doc_server_network.specs.Saved.{IsAllSaved, IsReady};
+ghost use Rattle.doc_server_serving.specs.Memories.{IsUntouched};
+ghost use Rattle.doc_server_serving.specs.Saved.{IsAllSaved, IsReady};
 ghost use Rattle.doc_server_serving.specs.Wirings.{IsNew};
 
 use crate::listen::scene::bounds_of;
@@ -20,20 +20,20 @@ use crate::listen::served::{Bounds, idle, saved_over};
 use crate::listen::told::push_told;
 use crate::serving::guests::{input_of, network_of};
 use crate::serving::held::replace;
-use crate::serving::no_readers::NoReaders;
 use crate::serving::notes::{Notes, Watcher};
+use crate::serving::nothing_given::NothingGiven;
 use doc_hub::hub::Hub;
 use doc_page::renderer::Renderer;
 use doc_page_parts::failure::Memory;
 use doc_page_parts::heap::{Heap, String, Vec};
 use doc_server_journal::device::Device;
 use doc_server_journal::memory::MemoryDevice;
-use doc_server_network::memory_network::MemoryNetwork;
-use doc_server_network::network::Network;
-use doc_server_network::saved_hub::SavedHub;
-use doc_server_network::watched::Watched;
 use doc_server_serving::fault::ServeFault;
 use doc_server_serving::named_file::NamedFile;
+use doc_server_serving::net::memory_network::MemoryNetwork;
+use doc_server_serving::net::network::Network;
+use doc_server_serving::net::saved_hub::SavedHub;
+use doc_server_serving::net::watched::Watched;
 use doc_server_serving::server::Server;
 use std::rt::Clock;
 use std::time::Instant;
@@ -192,7 +192,7 @@ fn serve<N: Network, D: Device + NamedFile, R: Renderer + Drop, P: Clock>(
         return Err(ServeFault::Socket);
     };
     let mut server = Server::new(now, heap, asked.connections, idle(asked.idle_seconds))?;
-    let ended = server.serve(rt, net, saved, &mut NoReaders);
+    let ended = server.serve(rt, net, saved, &mut NothingGiven);
     drop(server);
     ended
 }

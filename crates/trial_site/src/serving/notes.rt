@@ -3,8 +3,8 @@
 use doc_page_parts::bytes::Bytes;
 use doc_page_parts::failure::Memory;
 use doc_page_parts::heap::{Heap, String, Vec};
-use doc_server_network::handed::Handed;
-use doc_server_network::watch::Watch;
+use doc_server_serving::net::handed::Handed;
+use doc_server_serving::net::watch::Watch;
 
 /// What was told of a connection.
 #[derive(Drop)]

@@ -3,16 +3,19 @@
 //! `turns CALLS MOST | BYTES | BYTES ..`: one connection is made, and each text is a turn: its bytes are pushed, steps are made while
 //! there is room and a request is whole, and the edits are settled; then the journal's room is seen to, by as much as behind a turn of a
 //! server. The file isn't grown past so many bytes; so many calls of it go well, and the next one fails. Afterwards it is what was left.
+//! A text `reload LINES` is no turn: the pages that the edits of LINES make of none are loaded, as between two turns.
 //!
 //! The answer, for each turn and with ` | ` between two: the bytes of its replies, how many bytes of the connection are unread then, and
 //! what refused a step, or the settling, or the room: that turn is the last one. Behind a turn that is settled: whether puts are taken, how
-//! much room there is, and whether that is enough for removals.
+//! much room there is, and whether that is enough for removals. Of a reload: how many pages it has put and removed, and how many records
+//! the journal has, or why it is refused.
 
 ghost use Rattle.std.specs.Prelude.{◌≡◌, true, IfOk};
-ghost use Rattle.doc_server_network.specs.Saved.{IsAllSaved, IsReady};
+ghost use Rattle.doc_server_serving.specs.Saved.{IsAllSaved, IsReady};
 
 use crate::listen::served::{Bounds, saved_over};
 use crate::listen::told::push_told;
+use crate::serving::compacting::site_of;
 use crate::serving::hosted::keep_file;
 use doc_hub::event::{ConnId, Step};
 use doc_hub::hub::Hub;
@@ -21,7 +24,9 @@ use doc_page_parts::bytes::Bytes;
 use doc_page_parts::failure::Memory;
 use doc_page_parts::heap::{Heap, String, Vec};
 use doc_server_journal::device::Device;
-use doc_server_network::saved_hub::SavedHub;
+use doc_server_serving::net::reload_fault::ReloadFault;
+use doc_server_serving::net::reloaded::Reloaded;
+use doc_server_serving::net::saved_hub::SavedHub;
 use doc_server_serving::room::growth;
 use trial::answer::no_call;
 
@@ -76,7 +81,11 @@ fn make_turns<D: Device, R: Renderer + Drop>(
         return Err(Memory);
     };
     'turns: for text in turns.split(" | ") {
-        if !make_turn(heap, saved, id, text, out)? {
+        let goes_on = match text.strip_prefix("reload ") {
+            Some(lines) => reload(heap, saved, lines, out)?,
+            None => make_turn(heap, saved, id, text, out)?,
+        };
+        if !goes_on {
             return Ok(());
         }
     }
@@ -110,6 +119,43 @@ fn make_turn<D: Device, R: Renderer + Drop>(
     told?;
     push_unread(saved, id, out)?;
     settle(heap, saved, out)
+}
+
+/// Loads the pages that the edits of lines make of none. False: it has ended the server.
+fn reload<D: Device, R: Renderer + Drop>(
+    heap: Heap,
+    saved: &mut SavedHub<D, R>,
+    lines: &str,
+    out: &mut String,
+) -> Result<bool, Memory>
+    requires all { IsAllSaved saved.old }
+    requires ready { IsReady D.seen D.may_leave D.failed D.stale saved.old }
+    ensures { IfOk result (λ goes. goes ≡ true
+        → IsAllSaved saved.new × IsReady D.seen D.may_leave D.failed D.stale saved.new) }
+{
+    let Some(pages) = site_of(heap, lines)? else {
+        out.push_str("no pages | ")?;
+        return Ok(true);
+    };
+    match saved.reload(heap, pages) {
+        Ok(made) => push_reloaded(out, made)?,
+        Err(ReloadFault::Refused(refusal)) => write!(out, "refused: {refusal} | ")?,
+        Err(ReloadFault::Ends(fault)) => {
+            write!(out, "ended: {fault}")?;
+            return Ok(false);
+        }
+    }
+    Ok(true)
+}
+
+fn push_reloaded(out: &mut String, made: Reloaded) -> Result<(), Memory> {
+    let Reloaded {
+        put,
+        removed,
+        records,
+    } = made;
+    write!(out, "{put} put, {removed} removed, {records} records | ")?;
+    Ok(())
 }
 
 /// Steps while there is room and a request is whole.

@@ -1,4 +1,4 @@
-use Rattle.doc_server_network.specs.Saved.{IsAllSaved, IsReady}
+use Rattle.doc_server_serving.specs.Saved.{IsAllSaved, IsReady}
 use Rattle.trial_site.proofs.serving.turning.make_turns.Given as goal
 
 abbrev pub invariant-turns : goal.invariant-turns

@@ -1,4 +1,4 @@
-use Rattle.doc_server_network.specs.Saved.{IsReady}
+use Rattle.doc_server_serving.specs.Saved.{IsReady}
 use Rattle.trial_site.proofs.serving.turning.step_all.Given as goal
 
 abbrev pub invariant-steps : goal.invariant-steps
