@@ -1,4 +1,4 @@
-"""Readers set anew while `listen` runs: a line `reload` on its standard input, and what comes of it. Beside each change stands a server
+"""Readers and pages read anew while `listen` runs: a line `reload` on its standard input, and what comes of it. Beside each change stands a server
 that is started anew on the same files: the replies of all readers are alike. What is refused leaves all as it was, and is told.
 
     python3 scripts/listen/reload.py PROGRAM
@@ -16,6 +16,11 @@ PAGES = "".join(f'[[page]]\npath = "{group}.md"\ngroups = ["{group}"]\ntext = "#
 PAGES += '[[page]]\npath = "all.md"\ntext = "To [red](red.md), [green](green.md) and [none](none.md)."\n'
 TARGETS = [f"/page/{name}.md" for name in (*GROUPS, "all", "none")]
 TARGETS += ["/search?q=red", "/pages", "/links?path=red.md", "/backlinks?path=red.md", "/broken", "/"]
+
+
+def done(readers, put=0, removed=0, record=0):
+    """What is printed of a reload that is made."""
+    return f"reload: {readers} readers, {put} pages put, {removed} removed (record {record})\n"
 
 
 def row(token, groups=(), owner=False, name="", hashed=False):
@@ -74,14 +79,52 @@ def readers():
     whole = request(TOKENS[1], "/page/green.md")
     ben.socket.sendall(whole[:20])
     said = site.reload(row(TOKENS[0], ["green"]) + row(TOKENS[2], owner=True, hashed=True) + PAGES)
-    scene.check("what is told", said == "reload: 2 readers\n", said)
+    scene.check("what is told", said == done(2), said)
     ben.socket.sendall(whole[20:])
     scene.check("one who went, on a request that was half sent", ben.reply()[0] == 401)
     scene.check("one whose groups are others", [ann.ask("/page/red.md")[0], ann.ask("/page/green.md")[0]] == [404, 200])
     scene.check("one who came, by a digest", [site.code(TOKENS[2], it) for it in TARGETS[:3]] == [200, 200, 200])
     scene.check("the digest is no token", site.code(hashlib.sha256(TOKENS[2].encode()).hexdigest()) == 401)
-    scene.check("nobody", site.reload(PAGES) == "reload: 0 readers\n" and ann.ask("/page/all.md")[0] == 401)
+    scene.check("nobody", site.reload(PAGES) == done(0) and ann.ask("/page/all.md")[0] == 401)
     site.ends("readers")
+
+
+def pages():
+    """Pages of rows, of files and of folders come, go and change; who reads on a standing connection has them from then on."""
+    ann = row(TOKENS[0], ["red"])
+    put("text.md", "One")
+    put("docs/one.md", "# One\n\n[two](two.md)")
+    put("docs/part/README.md", "Read me")
+    files = '[[page]]\npath = "text.md"\nfile = "text.md"\ngroups = ["red", "blue"]\n'
+    files += '[[folder]]\npath = "docs"\nprefix = "docs"\nreadme = true\ngroups = ["red"]\n'
+    site = Reloaded(ann + files + PAGES)
+    client = Client(site.server.port, TOKENS[0])
+
+    def read(path):
+        code, _, body = client.ask(f"/page/{path}")
+        return body if code == 200 else code
+
+    def now(name, change, told, path, wanted):
+        change()
+        said = site.reload()
+        scene.check(f"{name}: told", said == told, said)
+        found = read(path)
+        scene.check(name, found == wanted if isinstance(wanted, int) else isinstance(found, bytes) and wanted in found, found)
+
+    scene.check("a README is its folder's index", b"Read me" in read("docs/part/index.md"))
+    now("nothing", lambda: None, "reload: nothing has changed\n", "text.md", b"One")
+    now("a file's text", lambda: put("text.md", "Two"), done(1, 1), "text.md", b"Two")
+    now("a page more in a folder", lambda: put("docs/two.md", "# Two"), done(1, 1), "docs/two.md", b"Two")
+    now("a link to it", lambda: None, "reload: nothing has changed\n", "docs/one.md", b'href="/page/docs/two.md"')
+    now("one less", lambda: os.remove("docs/two.md"), done(1, 0, 1), "docs/two.md", 404)
+    now("no link to it", lambda: None, "reload: nothing has changed\n", "docs/one.md", b"two")
+    now("a README's text", lambda: put("docs/part/README.md", "Read that"), done(1, 1), "docs/part/index.md", b"Read that")
+    now("a page of other groups", lambda: put("site.toml", ann + files + PAGES.replace('groups = ["red"]', 'groups = ["blue"]')), done(1, 1), "red.md", 404)
+    now("and of its own again", lambda: put("site.toml", ann + files + PAGES), done(1, 1), "red.md", b"red")
+    now("readers and pages at once", lambda: put("site.toml", row(TOKENS[0], ["blue"]) + files + PAGES.replace("# blue", "# Blue")),
+        done(1, 1), "blue.md", b"Blue")
+    now("all but one", lambda: put("site.toml", ann + '[[page]]\npath = "all.md"\ngroups = ["red"]\ntext = "All"\n'), done(1, 1, 6), "all.md", b"All")
+    site.ends("pages")
 
 
 def refused():
@@ -89,6 +132,8 @@ def refused():
     good = 'cache = 7\n' + row(TOKENS[0], ["red"]) + row(TOKENS[1], ["green"]) + PAGES
     site = Reloaded(good)
     line = good.split("\n").index('groups = ["green"]')
+    page = good.split("\n").index('path = "blue.md"')
+    put("twice/red.md", "Red")
     for name, text, said in (
         ("a bad key", good.replace('groups = ["green"]', 'groups = "green"', 1),
          f"reload refused: site.toml:{line - 1}: reader 2: `groups` must be an array of strings\nreload refused: config\n"),
@@ -100,22 +145,26 @@ def refused():
         ("no document", good + "x =\n", None),
         ("one token twice", good.replace(TOKENS[1], TOKENS[0]), None),
         ("another setting", good.replace("cache = 7", "cache = 8"), "reload refused: needs a restart: `cache`\n"),
-        ("another page", good.replace("# blue", "# Blue"), "reload refused: needs a restart: `page`\n"),
+        ("a bad page", good.replace('path = "blue.md"', 'path = "/blue.md"'),
+         f"reload refused: site.toml:{page}: page 3: `path` is no path of a page\nreload refused: config\n"),
+        ("a page's file that isn't there", good + '[[page]]\npath = "more.md"\nfile = "more.md"\n', "reload refused: cannot read more.md\n"),
+        ("a folder that isn't there", good + '[[folder]]\npath = "more"\n', None),
+        ("a path twice", good + '[[folder]]\npath = "twice"\n', "reload refused: config: red.md twice\n"),
         ("a setting less", good.replace("cache = 7\n", ""), "reload refused: needs a restart: `cache`\n"),
         ("a setting more", "keep_alive = true\n" + good, "reload refused: needs a restart: `keep_alive`\n"),
         ("a table more", good + "[listen]\nidle_seconds = 9\n", "reload refused: needs a restart: `listen`\n"),
         ("other readers too", row(TOKENS[3]) + good.replace("cache = 7\n", ""), "reload refused: needs a restart: `cache`\n"),
     ):
-        lines = said.count("\n") if said else 2
+        lines = said.count("\n") if said else 1 if "folder" in name else 2
         told = site.reload(text, lines)
-        scene.check(f"{name}: told", told == said if said else told.startswith("reload refused: site.toml:") and told.endswith("\nreload refused: config\n"), told)
+        scene.check(f"{name}: told", told == said if said else told.startswith("reload refused: ") and told.count("\n") == lines, told)
         scene.check(f"{name}: all is as before", [site.code(it, "/page/green.md") for it in TOKENS[:4]] == [404, 200, 401, 401])
     os.remove("site.toml")
     told = site.reload()
     scene.check("no file: told", told == "reload refused: cannot read site.toml\n", told)
     scene.check("what is as it was", site.reload(good) == "reload: nothing has changed\n")
     scene.check("a comment", site.reload("# a comment\n" + good) == "reload: nothing has changed\n")
-    scene.check("behind all that", site.reload(good + row(TOKENS[2])) == "reload: 3 readers\n" and site.code(TOKENS[2]) == 404)
+    scene.check("behind all that", site.reload(good + row(TOKENS[2])) == done(3) and site.code(TOKENS[2]) == 404)
     site.ends("refused")
 
 
@@ -150,7 +199,7 @@ def alike(tries=60):
         tokens = chance.sample(TOKENS, chance.randint(0, len(TOKENS)))
         rows = [row(it, chance.sample(GROUPS, chance.randint(0, 3)), chance.random() < 0.2, hashed=chance.random() < 0.5) for it in tokens]
         said = site.reload("".join(rows) + PAGES)
-        if not scene.check(f"change {count}: told", said in (f"reload: {len(rows)} readers\n", "reload: nothing has changed\n"), said):
+        if not scene.check(f"change {count}: told", said in (done(len(rows)), "reload: nothing has changed\n"), said):
             continue
         anew = scene.listen("site.toml")
         for it in TOKENS:
@@ -166,7 +215,7 @@ def with_edits():
     ann = Client(site.server.port, TOKENS[0])
     scene.check("an edit", ann.ask("/page/new.md", "PUT", b"New", "")[0] in (200, 201))
     said = site.reload(row(TOKENS[0], owner=True) + row(TOKENS[1]) + PAGES)
-    scene.check("told", said == "reload: 2 readers\n", said)
+    scene.check("told", said == done(2, record=1), said)
     ben = Client(site.server.port, TOKENS[1])
     scene.check("an edit of one who isn't an owner", ben.ask("/page/new.md", "PUT", b"Ben's")[0] == 403)
     scene.check("one more", ann.ask("/page/red.md", "DELETE")[0] in (200, 204))
@@ -191,7 +240,7 @@ def log():
         ask(it)
     put("site.toml", row(TOKENS[2], name="cleo", hashed=True) + row(TOKENS[1], name="ben") + row(TOKENS[0]) + PAGES)
     site.say("reload\n")
-    until(lambda: "reload: 3 readers\n" in site.server.said(), 5)
+    until(lambda: done(3) in site.server.said(), 5)
     for it in TOKENS[:4]:
         ask(it)
     scene.check("names", seen == ["ann", "reader-2", "-", "reader-3", "ben", "cleo", "-"], seen)
@@ -214,17 +263,17 @@ def busy(times=200):
 
     reader = threading.Thread(target=read)
     reader.start()
-    done = sum(site.reload(texts[i % 2 - 1]) == "reload: 2001 readers\n" for i in range(times))
+    made = sum(site.reload(texts[i % 2 - 1]) == done(2001) for i in range(times))
     stop.set()
     reader.join()
-    scene.check("all are done", done == times, done)
+    scene.check("all are done", made == times, made)
     scene.check("a reader beside them is always answered", wrong[0] == 0, wrong[0])
     print(f"slowest reply beside {times} reloads of 2,001 readers: {slowest[0] * 1_000:.0f} ms")
     site.ends("busy")
 
 
 def main():
-    for it in (readers, refused, lines, alike, with_edits, log, busy):
+    for it in (readers, pages, refused, lines, alike, with_edits, log, busy):
         it()
 
 

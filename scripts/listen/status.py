@@ -179,12 +179,12 @@ def reloads():
     more = SITE + '[[reader]]\ntoken = "tok-more"\ngroups = []\n'
     scene.check("reloads: at the start", site.reloads(0, 0), site.counted())
     for name, text, line, told, done, refused in (
-        ("a reader more", more, b"reload\n", "reload: 2 readers\n", 1, 0),
+        ("a reader more", more, b"reload\n", "reload: 2 readers, 0 pages put, 0 removed (record 0)\n", 1, 0),
         ("no change", more, b"reload\n", "reload: nothing has changed\n", 1, 0),
         ("a typo", more + "x =\n", b"reload\n", "\nreload refused: config\n", 1, 1),
         ("another line", more, b"relaod\n", "unknown line\n", 1, 1),
         ("a setting more", "keep_alive = true\n" + more, b"reload\n", "reload refused: needs a restart: `keep_alive`\n", 1, 2),
-        ("a reader less", SITE, b"reload\n", "reload: 1 readers\n", 2, 2),
+        ("a reader less", SITE, b"reload\n", "reload: 1 readers, 0 pages put, 0 removed (record 0)\n", 2, 2),
     ):
         put("site.toml", text)
         scene.check(f"reloads: {name}: told", site.hears(line, told), site.server.said())

@@ -87,7 +87,7 @@ def reloaded(command, port):
     put(site, OWNER)
     unit.shell.terminate()
     found = unit.ends(10)
-    scene.check("what was told", found == (0, "reload: 2 readers\n"), found)
+    scene.check("what was told", found == (0, "reload: 2 readers, 0 pages put, 0 removed (record 1)\n"), found)
 
 
 def damaged(command):
