@@ -19,7 +19,8 @@ SITE = OWNER + PAGE + LARGE
 # the metrics in their order, and their kinds
 METRICS = [("docs_requests_total", "counter"), ("docs_unauthorized_total", "counter"), ("docs_bytes_total", "counter"),
            ("docs_connections", "gauge"), ("docs_connections_most", "gauge"), ("docs_turn_seconds_max", "gauge"),
-           ("docs_pages", "gauge"), ("docs_journal_bytes", "gauge"), ("docs_reload_total", "counter")]
+           ("docs_pages", "gauge"), ("docs_journal_bytes", "gauge"), ("docs_reload_total", "counter"),
+           ("docs_reload_time_seconds", "gauge")]
 
 
 def ask(port, data, seconds=10):
@@ -178,6 +179,8 @@ def reloads():
     site = Watched()
     more = SITE + '[[reader]]\ntoken = "tok-more"\ngroups = []\n'
     scene.check("reloads: at the start", site.reloads(0, 0), site.counted())
+    scene.check("reloads: none was done", site.counted()[("docs_reload_time_seconds",)] == 0, site.counted())
+    last = 0
     for name, text, line, told, done, refused in (
         ("a reader more", more, b"reload\n", "reload: 2 readers, 0 pages put, 0 removed (record 0)\n", 1, 0),
         ("no change", more, b"reload\n", "reload: nothing has changed\n", 1, 0),
@@ -187,8 +190,13 @@ def reloads():
         ("a reader less", SITE, b"reload\n", "reload: 1 readers, 0 pages put, 0 removed (record 0)\n", 2, 2),
     ):
         put("site.toml", text)
+        begun = int(time.time())
         scene.check(f"reloads: {name}: told", site.hears(line, told), site.server.said())
         scene.check(f"reloads: {name}", site.reloads(done, refused), site.counted())
+        when = site.counted()[("docs_reload_time_seconds",)]
+        is_done = told.startswith("reload: ") and "nothing" not in told
+        scene.check(f"reloads: {name}: when", begun <= when <= time.time() if is_done else when == last, (begun, when, last))
+        last = when
     scene.check("reloads: pages stay", site.counted()[("docs_pages",)] == 2)
     scene.check("reloads: the end", site.server.end() == 0)
 

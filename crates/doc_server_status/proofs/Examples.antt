@@ -23,7 +23,7 @@ much_counted = record {
   connections = 7;
   connections_most = 8;
   turn_micros_most = 184;
-  standing = record { pages = 9; journal_bytes = 10240; reloads_done = 11; reloads_refused = 12 };
+  standing = record { pages = 9; journal_bytes = 10240; reloads_done = 11; reloads_refused = 12; reload_seconds = 1764507600 };
 }
 
 -- ---- health: the same whatever is counted
@@ -49,7 +49,7 @@ head_of_health counters = refl
 -- ---- metrics
 
 metrics_of_nothing : status_reply (codes "GET /metrics HTTP/1.1") nothing_counted
-    ≡ Some (codes "HTTP/1.1 200 OK\r\nContent-Type: text/plain; version=0.0.4; charset=utf-8\r\nContent-Length: 1213\r\n"
+    ≡ Some (codes "HTTP/1.1 200 OK\r\nContent-Type: text/plain; version=0.0.4; charset=utf-8\r\nContent-Length: 1380\r\n"
     ++ codes "Connection: close\r\n\r\n"
     ++ codes "# HELP docs_requests_total Requests that were answered, by the class of the code.\n"
     ++ codes "# TYPE docs_requests_total counter\ndocs_requests_total{class=\"2xx\"} 0\n"
@@ -68,12 +68,14 @@ metrics_of_nothing : status_reply (codes "GET /metrics HTTP/1.1") nothing_counte
     ++ codes "# TYPE docs_journal_bytes gauge\ndocs_journal_bytes 0\n"
     ++ codes "# HELP docs_reload_total Lines `reload` that were heard, by what came of them.\n"
     ++ codes "# TYPE docs_reload_total counter\ndocs_reload_total{result=\"done\"} 0\n"
-    ++ codes "docs_reload_total{result=\"refused\"} 0\n")
+    ++ codes "docs_reload_total{result=\"refused\"} 0\n"
+    ++ codes "# HELP docs_reload_time_seconds Seconds since 1970 at which a reload was last done, 0 where none was.\n"
+    ++ codes "# TYPE docs_reload_time_seconds gauge\ndocs_reload_time_seconds 0\n")
 unfolding computing
 metrics_of_nothing = refl
 
 metrics_of_all : status_reply (codes "GET /metrics HTTP/1.1") much_counted
-    ≡ Some (codes "HTTP/1.1 200 OK\r\nContent-Type: text/plain; version=0.0.4; charset=utf-8\r\nContent-Length: 1240\r\n"
+    ≡ Some (codes "HTTP/1.1 200 OK\r\nContent-Type: text/plain; version=0.0.4; charset=utf-8\r\nContent-Length: 1416\r\n"
     ++ codes "Connection: close\r\n\r\n"
     ++ codes "# HELP docs_requests_total Requests that were answered, by the class of the code.\n"
     ++ codes "# TYPE docs_requests_total counter\ndocs_requests_total{class=\"2xx\"} 18446744073709551615\n"
@@ -92,12 +94,14 @@ metrics_of_all : status_reply (codes "GET /metrics HTTP/1.1") much_counted
     ++ codes "# TYPE docs_journal_bytes gauge\ndocs_journal_bytes 10240\n"
     ++ codes "# HELP docs_reload_total Lines `reload` that were heard, by what came of them.\n"
     ++ codes "# TYPE docs_reload_total counter\ndocs_reload_total{result=\"done\"} 11\n"
-    ++ codes "docs_reload_total{result=\"refused\"} 12\n")
+    ++ codes "docs_reload_total{result=\"refused\"} 12\n"
+    ++ codes "# HELP docs_reload_time_seconds Seconds since 1970 at which a reload was last done, 0 where none was.\n"
+    ++ codes "# TYPE docs_reload_time_seconds gauge\ndocs_reload_time_seconds 1764507600\n")
 unfolding computing
 metrics_of_all = refl
 
 head_of_metrics : status_reply (codes "HEAD /metrics HTTP/1.1") much_counted
-    ≡ Some (codes "HTTP/1.1 200 OK\r\nContent-Type: text/plain; version=0.0.4; charset=utf-8\r\nContent-Length: 1240\r\n"
+    ≡ Some (codes "HTTP/1.1 200 OK\r\nContent-Type: text/plain; version=0.0.4; charset=utf-8\r\nContent-Length: 1416\r\n"
     ++ codes "Connection: close\r\n\r\n")
 unfolding computing
 head_of_metrics = refl

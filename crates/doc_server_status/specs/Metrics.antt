@@ -41,12 +41,13 @@ turn_metric micros =
     heading (codes "gauge") (codes "docs_turn_seconds_max") (codes "Seconds of the longest turn since the last look.")
     ++ (codes "docs_turn_seconds_max " ++ decimal micros ++ codes "e-6\n")
 
--- reloads, by what came of them
+-- reloads, by what came of them, and when one was last done
 unfoldable pub reload_metric : Standing → List ℕ
 reload_metric standing =
     heading (codes "counter") (codes "docs_reload_total") (codes "Lines `reload` that were heard, by what came of them.")
     ++ sample (codes "docs_reload_total{result=\"done\"}") (decimal standing.reloads_done)
     ++ sample (codes "docs_reload_total{result=\"refused\"}") (decimal standing.reloads_refused)
+    ++ metric (codes "gauge") (codes "docs_reload_time_seconds") (codes "Seconds since 1970 at which a reload was last done, 0 where none was.") standing.reload_seconds
 
 -- what stands behind a turn
 unfoldable pub standing_metrics : Standing → List ℕ

@@ -173,7 +173,7 @@ fn push_standing(out: &mut String, standing: Standing) -> Result<(), Memory>
     Ok(())
 }
 
-/// Writes what came of reloads.
+/// Writes what came of reloads, and when one was last done.
 #[tactic(auto, unfolding(crate::specs::Metrics::reload_metric))]
 fn push_reloads(out: &mut String, standing: Standing) -> Result<(), Memory>
     ensures { OnOk result
@@ -194,6 +194,13 @@ fn push_reloads(out: &mut String, standing: Standing) -> Result<(), Memory>
         out,
         "docs_reload_total{result=\"refused\"}",
         standing.reloads_refused,
+    )?;
+    push_metric(
+        out,
+        "gauge",
+        "docs_reload_time_seconds",
+        "Seconds since 1970 at which a reload was last done, 0 where none was.",
+        standing.reload_seconds,
     )?;
     Ok(())
 }

@@ -18,6 +18,7 @@ use doc_page_parts::failure::Memory;
 use doc_page_parts::heap::Heap;
 use doc_page_parts::text::Text;
 use doc_server_config::document::Document;
+use doc_server_journal::clock::seconds_of;
 use doc_server_log_names::names::Names;
 use doc_server_serving::given::Given;
 use doc_server_serving::net::reload_fault::Refusal;
@@ -25,7 +26,7 @@ use doc_server_serving::net::reloaded::Reloaded;
 use doc_server_serving::source::Source;
 use doc_server_streams::input::Input as _;
 use doc_server_streams::read_from::ReadFrom;
-use std::rt::Files;
+use std::rt::{Clock, Files};
 use toml::{Table, Value};
 
 /// How many bytes of standard input are read at once.
@@ -71,7 +72,7 @@ struct Pending {
     names: Names,
 }
 
-impl<'a, P: AllocGlobal + Clone + Drop + Eprint + Files + Input> Reloading<'a, P> {
+impl<'a, P: AllocGlobal + Clock + Clone + Drop + Eprint + Files + Input> Reloading<'a, P> {
     /// A configuration that is served, the file of this name, beside so many media.
     pub fn new(
         rt: &'a P,
@@ -197,7 +198,7 @@ impl<'a, P: AllocGlobal + Clone + Drop + Eprint + Files + Input> Reloading<'a, P
             let _ = eprintln!(self.rt; "reload: nothing has changed");
             return;
         }
-        self.shared.tell_reload(true);
+        self.shared.tell_reload(seconds_of(self.rt));
         let readers = reader_count(&self.document.table);
         let _ = eprintln!(self.rt;
             "reload: {readers} readers, {put} pages put, {removed} removed (record {records})"
@@ -219,7 +220,7 @@ impl<'a, P: AllocGlobal + Clone + Drop + Eprint + Files + Input> Reloading<'a, P
     }
 }
 
-impl<P: AllocGlobal + Clone + Drop + Eprint + Files + Input> Source for Reloading<'_, P> {
+impl<P: AllocGlobal + Clock + Clone + Drop + Eprint + Files + Input> Source for Reloading<'_, P> {
     ghost use Rattle.std.specs.Prelude.{◌≡◌, ⊤, None};
     ghost use Rattle.docs_server.specs.Reloading.{HasAnswered};
 
@@ -237,7 +238,7 @@ impl<P: AllocGlobal + Clone + Drop + Eprint + Files + Input> Source for Reloadin
                 Some(given)
             }
             Err(fault) => {
-                self.shared.tell_reload(false);
+                self.shared.tell_refusal();
                 let _ = eprintln!(self.rt; "reload refused: {fault}");
                 None
             }
@@ -249,7 +250,7 @@ impl<P: AllocGlobal + Clone + Drop + Eprint + Files + Input> Source for Reloadin
             Ok(reloaded) => self.tell_served(reloaded),
             Err(refusal) => {
                 self.given = None;
-                self.shared.tell_reload(false);
+                self.shared.tell_refusal();
                 let _ = eprintln!(self.rt; "reload refused: {refusal}");
             }
         }

@@ -22,14 +22,18 @@ impl Shared {
         }
     }
 
-    /// A reload took readers, or was refused.
-    pub fn tell_reload(&self, is_taken: bool) {
+    /// A reload was done, so many seconds after the beginning of 1970.
+    pub fn tell_reload(&self, seconds: u64) {
         let mut standing = self.standing.get();
-        if is_taken {
-            standing.reloads_done = standing.reloads_done.saturating_add(1);
-        } else {
-            standing.reloads_refused = standing.reloads_refused.saturating_add(1);
-        }
+        standing.reloads_done = standing.reloads_done.saturating_add(1);
+        standing.reload_seconds = seconds;
+        self.standing.set(standing);
+    }
+
+    /// A reload was refused.
+    pub fn tell_refusal(&self) {
+        let mut standing = self.standing.get();
+        standing.reloads_refused = standing.reloads_refused.saturating_add(1);
         self.standing.set(standing);
     }
 
