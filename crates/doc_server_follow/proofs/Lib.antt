@@ -1,0 +1,6 @@
+mod BegunLemmas
+mod LawLemmas
+mod LookLemmas
+mod MarkLemmas
+mod PieceLemmas
+mod TakenLemmas

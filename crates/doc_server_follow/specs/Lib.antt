@@ -1,0 +1,4 @@
+pub mod Follows
+pub mod Laws
+pub mod MemoryFiles
+pub mod Sights
