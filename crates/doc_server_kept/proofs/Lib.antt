@@ -1,6 +1,7 @@
 mod EditsMade
 mod EditsRequested
 mod Events
+mod FollowersLaw
 mod FewerPuts
 mod PagesRequested
 mod PathsWritten
