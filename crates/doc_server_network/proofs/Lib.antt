@@ -1,4 +1,5 @@
 mod Crashes
+mod Following
 pub mod MemorySteps
 pub mod Passing
 mod QuietEvents

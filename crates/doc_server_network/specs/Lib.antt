@@ -1,4 +1,5 @@
 pub mod Crashes
+pub mod Followings
 pub mod Memories
 pub mod Networks
 pub mod Readers

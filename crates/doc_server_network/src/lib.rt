@@ -6,6 +6,7 @@
 
 pub mod accepted;
 pub mod came;
+pub mod follow_fault;
 pub mod guest;
 pub mod handed;
 mod line;

@@ -21,6 +21,8 @@ ghost use Rattle.doc_server_reload.specs.RestoredLaws.{RestoredSitesAreOfCalls, 
 ghost use Rattle.doc_server_settling.specs.Reserves.{HasRoomToRemove};
 ghost use Rattle.doc_store.specs.Store.{StoreState};
 
+mod following;
+
 use crate::permit::Permit;
 use crate::reload_fault::ReloadFault;
 use crate::reloaded::Reloaded;
