@@ -31,6 +31,9 @@ USAGES = ((["listen"], ()), (["listen", "good.toml"], ()), (["listen", "good.tom
           (["listen", "good.toml", f"{HOST}:0", "--Journal", "good"], ("unknown option: --Journal",)),
           (["compact", "good.toml", "good"], ("unknown option: good",)),
           (["listen", "good.toml", f"{HOST}:0", "--journal", "good", "x"], ("unknown option: x",)),
+          (["listen", "good.toml", f"{HOST}:0", "--follow"], ("--follow needs a file",)),
+          (["listen", "good.toml", f"{HOST}:0", "--follow", "good", "--journal", "kept"], ("--journal and --follow exclude each other",)),
+          (["compact", "good.toml", "--follow", "good"], ("unknown option: --follow",)),
           (["compact", "good.toml", "--journal"], ("--journal needs a file",)),
           (["compact", "good.toml", "--journal", "good", "x"], ("unknown option: x",)),
           (["compact", "good.toml", "--log", "good"], ("unknown option: --log",)), (["folders"], ()), (["folders", "good.toml", "x"], ()))

@@ -419,6 +419,47 @@ def reloads():
     return [*lines, holds(b""), *turns(Saved(), MUCH, MUCH, Reload(b"move a.md b.md\n"))]
 
 
+def follow(what, texts, *guests, file=None, ended="served", came=None):
+    """A server that follows the records of these texts, which its file has behind its first turn: nothing is answered before. It takes no
+    edits: a page is asked for as a list is. Where it ends for what it follows, so much of each guest has come."""
+    hub = BoundedHub()
+    hub.readers = dict(READERS)
+    for line in b"".join(texts).decode().splitlines():
+        make(hub, line)
+
+    def answer(token, method, target, body=""):
+        return hub.reply(token, method, target if method in ("GET", "HEAD") else "/contents", body)
+
+    if came is None:
+        told_of = guests_told(guests, 8, answer)
+    else:
+        told_of = [guest.told("", len(guest.input) if came else 0, []) for guest in guests]
+    call = " | ".join([f"follow {WAITS} 8", *(guest.line() for guest in guests)])
+    return [f"# {what}", holds(journals.written(texts) if file is None else file), (call, " | ".join([ended, *told_of]))]
+
+
+def follows():
+    """Servers that follow the file as another server's journal."""
+    asks = Peer(*((token, "GET", f"/page/{path}.md") for path in "abcd" for token in (OWNER, BOB)), (BOB, "GET", "/contents"))
+    edits = Peer((OWNER, "PUT", "/page/a.md?groups=staff", "Mine\n"), (OWNER, "DELETE", "/page/b.md"), (BOB, "PUT", "/page/a.md", "Mine\n"),
+                 (OWNER, "GET", "/page/a.md"), ("tok-none", "DELETE", "/page/a.md"))
+    lines = follow("What follows another server answers behind its records, and takes no edits.", PAGES, asks, edits)
+    lines += follow("Moves, removals and a page that is put again; zeros stand behind the records.", texts := [
+        *PAGES, b"move b.md d.md\n", b"remove a.md\nput c.md - Zero\n"], asks, edits, file=journals.written(texts) + bytes(9_000))
+    lines += follow("A record that is longer than what is read at first.", [*PAGES, b"put d.md ops " + 90_000 * b"x" + b"\n"], asks)
+    lines += follow("No records.", [], asks, edits)
+    lines += follow("A record whose gate isn't open yet isn't followed.", PAGES[:1], asks,
+                    file=(whole := journals.written(PAGES))[:(end := len(journals.written(PAGES[:1])) - 1)] + b"\xf0" + whole[end + 1:])
+    lines += follow("One that is there in part isn't, either.", PAGES[:1], asks, file=whole[:-9])
+    broken = bytearray(whole)
+    broken[end + 30] ^= 1
+    lines += follow("A damaged one ends it.", PAGES[:1], asks, file=bytes(broken), ended="refused: damaged", came=True)
+    lines += follow("So does one whose edit is refused.", texts := [*PAGES, b"put d.md - Four\nmove a.md b.md\n"], asks,
+                    ended="refused: journal record 3 refused, line 2", came=False)
+    refused = f"follow {WAITS} 8 | {asks.line()}", "refused: no journal"
+    return [*lines, "# What is no journal isn't followed.", holds(b""), refused, holds(b"docs_server journal 2"), refused]
+
+
 class Site:
     """Pages with their aliases, by the rules of docs/SITE.md, and the edits that are made on them."""
 
@@ -568,4 +609,4 @@ def refusals(edits):
 
 
 if __name__ == "__main__":
-    write("serving", [line for part in (hosts(), serves(), saves(), reloads(), compactions()) for line in [*part, ""]], "trial_site")
+    write("serving", [line for part in (hosts(), follows(), serves(), saves(), reloads(), compactions()) for line in [*part, ""]], "trial_site")

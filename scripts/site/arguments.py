@@ -12,6 +12,7 @@ from scene import HOST, OWNER, TOP, Client, Scene, free_port, put, start
 
 scene = Scene(seconds=600, told="{right} of {all} as they should be")
 ADDR = "ADDR is an IP address or localhost, and a port: 127.0.0.1:8080"
+EXCLUDED = "--journal and --follow exclude each other"
 VERSION = b"docs_server 0.9.0\njournal 2\njournal 1 (compact alone)\n"
 # no file has this name, so a line that is understood ends at it
 NOWHERE = "nowhere.toml"
@@ -37,7 +38,9 @@ NO_ADDRESSES = ("", HOST, ":80", f"{HOST}:", f"{HOST}:65536", f"{HOST}:+1", "256
 # what stands behind `--status`; FILE, which is any word, is None
 MONITORS = object()
 # the options of `listen`, each in all its forms
-LISTEN = ((["--journal", None],), (["--log"], ["--log=json"]), (["--status", MONITORS],))
+LISTEN = ((["--journal", None],), (["--follow", None],), (["--log"], ["--log=json"]), (["--status", MONITORS],))
+# two that exclude each other, which is told of a line that is good but for that
+EITHER = ("--journal", "--follow")
 # the words behind CONFIG and ADDR that `listen` takes, which are some of its options in any order, and those behind CONFIG that the others do
 GOOD = {"listen": [sum(forms, []) for count in range(len(LISTEN) + 1) for order in itertools.permutations(LISTEN, count)
                    for forms in itertools.product(*order)],
@@ -85,8 +88,9 @@ def wrong(command, words):
             known = any(word in good[:1] for good in GOOD[command])
             # the log's two forms are one option
             return (f"{word.removesuffix('=json')} stands twice" if known else f"unknown option: {word}", "usage")
-    if any(len(words) == len(good) and begins(words, good) for good in GOOD[command]):
-        return ()
+    for good in GOOD[command]:
+        if len(words) == len(good) and begins(words, good):
+            return (EXCLUDED, "usage") if all(word in good for word in EITHER) else ()
     return (f"{words[-1]} needs {'an address' if words[-1] == '--status' else 'a file'}", "usage") if words else ("usage",)
 
 
@@ -116,7 +120,7 @@ def numbers_and_addresses():
         stops(["listen", NOWHERE, f"{HOST}:0", "--status", address], UNDERSTOOD)
     for address in NO_ADDRESSES:
         stops(["serve", NOWHERE, address, "1", "1"], "usage")
-        for options in ([], ["--log"], ["--log", "--log"], ["x"], ["--journal"], ["--status"]):
+        for options in ([], ["--log"], ["--log", "--log"], ["x"], ["--journal"], ["--status"], ["--journal", "j", "--follow", "j"]):
             stops(["listen", NOWHERE, address, *options], ADDR, "usage")
         for options in ([], ["--log"], ["x"], ["--status"]):
             stops(["listen", NOWHERE, f"{HOST}:0", "--status", address, *options], ADDR, "usage")
@@ -126,13 +130,16 @@ def options():
     """Each line of up to four words of either five, and some of more."""
     words = ("--journal", "--log", "--log=json", "j", "--Log")
     others = ("--journal", "--log", "--status", LOCAL[0], "j")
-    lines = list(dict.fromkeys(line for five in (words, others) for count in range(5) for line in itertools.product(five, repeat=count)))
-    lines += [("--log", "--journal", "j", last, "x") for last in (*words, *others)]
-    # each order of the three options, alone, and with one of them behind it a second time
+    files = ("--journal", "--follow", "--log", "j", "--Follow")
+    lines = list(dict.fromkeys(line for five in (words, others, files) for count in range(5)
+                               for line in itertools.product(five, repeat=count)))
+    lines += [(*front, "j", last, "x") for front in (("--log", "--journal"), ("--log", "--follow")) for last in (*words, *others, *files)]
+    # each order of three options and of all four, alone, and with one of them behind it a second time
     lines += [tuple("j" if it is None else LOCAL[0] if it is MONITORS else it for it in good) + more
-              for good in GOOD["listen"] if len(good) == 5 for more in ((), ("--journal",), ("--log",), ("--log=json",), ("--status", "x"))]
+              for good in GOOD["listen"] if len(good) >= 5
+              for more in ((), ("--journal",), ("--follow", "k"), ("--log",), ("--log=json",), ("--status", "x"))]
     lines += [("--status=",), (f"--status={LOCAL[0]}",), ("--Status", LOCAL[0]), ("--status", LOCAL[0], LOCAL[0])]
-    lines += [("--log=",), ("--log=text",), ("--log=JSON",), ("--log", "json"), ("--journal=j",), ("-log",), ("--",), ("-",)]
+    lines += [("--log=",), ("--log=text",), ("--log=JSON",), ("--log", "json"), ("--journal=j",), ("--follow=j",), ("-log",), ("--",), ("-",)]
     for command, front in FRONTS.items():
         for line in map(list, lines):
             stops([command, *front, *line], *(wrong(command, line) or (UNDERSTOOD,)))
@@ -209,7 +216,9 @@ def help_told():
     lines = told.decode("ascii").splitlines()
     scene.check("--help", (status, said, told[-1:]) == (0, b"", b"\n") and max(map(len, lines)) <= 100, f"{status} {told} {said}")
     with open(TOP + "/docs/RUNNING.md") as page:
-        forms = re.findall(r"(?m)^\| `((?:listen|lint|folders|compact|check|replay|serve)\b[^`]*)` \|", page.read())
+        rows = re.findall(r"(?m)^\| `((?:listen|lint|folders|compact|check|replay|serve)\b[^`]*)` \|", page.read())
+    # a `|` within a table's cell stands behind a backslash
+    forms = [row.replace(r"\|", "|") for row in rows]
     for form in [*forms, "demo", "render", "examples FILE", "--version", "--help"]:
         scene.check(f"the line of {form}", sum(it == form or it.startswith(form + "  ") for it in lines) == 1)
 

@@ -1,5 +1,5 @@
 -- Pages that are put one after the other.
-use Rattle.std.proofs.Common.{◌≡◌, List, ℕ, true, cond, ap, refl, sym, ◌∙◌}
+use Rattle.std.proofs.Common.{◌≡◌, List, ℕ, Bool, true, cond, ap, refl, sym, ◌∙◌}
 use Rattle.std.specs.Prelude.{None, Result, Ok, Err}
 use Rattle.std.specs.Option.{ok_or}
 use Rattle.doc_page_parts.specs.Refusals.{IsAnswer}
@@ -12,7 +12,7 @@ use Rattle.doc_server_config.specs.declared.config.SiteConfig.{SiteConfig}
 use Rattle.doc_server_config.specs.declared.page_row.PageRow.{PageRow}
 use Rattle.doc_server_streams.specs.declared.fault.Fault.{Fault}
 use Rattle.doc_server_streams.specs.declared.fault.Fault.TheVariants as faults
-use Rattle.doc_server.specs.Sites.{accepted, site_world_beside, with_pages, settings_of}
+use Rattle.doc_server.specs.Sites.{accepted, settings_taking, site_world_taking, with_pages}
 
 -- a put that is refused
 pub put_refused : (w : World) (r : Result Put EditError) (e : EditError) → IsAnswer edit_errors.Memory r (Err e)
@@ -21,12 +21,13 @@ put_refused w (Ok put) e is other = absurd (other is)
 put_refused w (Err f) e is other = refl
 
 -- a site with a page that is refused
-pub site_refused : (config : SiteConfig) (texts : List (List ℕ)) (media : Media) (w : World) (rows : List PageRow) (fault : Fault)
-    → is_capacity config.cache ≡ true → w ≡ new_world config.readers (settings_of config) media → rows ≡ config.pages
+pub site_refused : (takes : Bool) (config : SiteConfig) (texts : List (List ℕ)) (media : Media) (w : World) (rows : List PageRow)
+    (fault : Fault) → is_capacity config.cache ≡ true → w ≡ new_world config.readers (settings_taking takes config) media
+    → rows ≡ config.pages
     → (fault ≡ faults.Refused) × (with_pages w rows texts ≡ None)
-    → site_world_beside config texts media ≡ Err fault
-site_refused config texts media w rows fault can made same (why, none) =
-    let first = new_world config.readers (settings_of config) media in
+    → site_world_taking takes config texts media ≡ Err fault
+site_refused takes config texts media w rows fault can made same (why, none) =
+    let first = new_world config.readers (settings_taking takes config) media in
     let none_there : with_pages first config.pages texts ≡ None =
     sym (ap (λ v. with_pages v config.pages texts) made) ∙ sym (ap (λ ps. with_pages w ps texts) same) ∙ none
     in ap (λ t. cond t (ok_or (with_pages first config.pages texts) faults.Refused) (Err faults.Config)) can

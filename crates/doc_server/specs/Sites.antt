@@ -1,5 +1,5 @@
 -- The world of a configured site: its pages are put one after the other. All of this is this project's choice.
-use Rattle.std.specs.Prelude.{ℕ, List, [], ◌∷◌, true, Option, Some, None, Result, Ok, Err, if◌then◌else◌}
+use Rattle.std.specs.Prelude.{ℕ, List, [], ◌∷◌, Bool, true, Option, Some, None, Result, Ok, Err, if◌then◌else◌}
 use Rattle.std.specs.Option.{ok_or}
 use Rattle.doc_store.specs.declared.store.EditError.{EditError}
 use Rattle.doc_store.specs.declared.store.Put.{Put}
@@ -43,17 +43,25 @@ with_pages w (page ∷ more) texts = elim (with_page w page (text_of page.source
   | Some v ↦ with_pages v more (texts_behind page.source texts)
 ]
 
--- the settings of a configured site
-abbrev pub settings_of : SiteConfig → Settings
-settings_of config = record { keep_alive = config.keep_alive; takes_edits = true; browse = config.browse }
+-- the settings of a configured site, which takes edits or none
+abbrev pub settings_taking : Bool → SiteConfig → Settings
+settings_taking takes config = record { keep_alive = config.keep_alive; takes_edits = takes; browse = config.browse }
 
--- the world of a configured site beside media, without connections, or what stops the program: the cache may have no such capacity, or a
--- page is refused, as where a medium stands under its path
-abbrev pub site_world_beside : SiteConfig → List (List ℕ) → Media → Result World Fault
-site_world_beside config texts media =
+-- those of a site that takes edits
+abbrev pub settings_of : SiteConfig → Settings
+settings_of config = settings_taking true config
+
+-- the world of a configured site beside media, which takes edits or none, without connections, or what stops the program: the cache may
+-- have no such capacity, or a page is refused, as where a medium stands under its path
+abbrev pub site_world_taking : Bool → SiteConfig → List (List ℕ) → Media → Result World Fault
+site_world_taking takes config texts media =
     if is_capacity config.cache
-    then ok_or (with_pages (new_world config.readers (settings_of config) media) config.pages texts) faults.Refused
+    then ok_or (with_pages (new_world config.readers (settings_taking takes config) media) config.pages texts) faults.Refused
     else Err faults.Config
+
+-- that of a site that takes edits
+abbrev pub site_world_beside : SiteConfig → List (List ℕ) → Media → Result World Fault
+site_world_beside config texts media = site_world_taking true config texts media
 
 -- the same without media
 abbrev pub site_world : SiteConfig → List (List ℕ) → Result World Fault

@@ -2,7 +2,7 @@
 
 ghost use Rattle.std.specs.Prelude.{◌≡◌, ◌≢◌, true, false, None, Some, Ok, Err, IfOk, IfErr, OnOk};
 ghost use Rattle.doc_hub.specs.Worlds.{is_capacity, new_world};
-ghost use Rattle.doc_server.specs.Sites.{site_world, site_world_beside, text_of, texts_behind, with_page, with_pages};
+ghost use Rattle.doc_server.specs.Sites.{site_world, site_world_beside, site_world_taking, text_of, texts_behind, with_page, with_pages};
 
 use doc_hub::hub::Hub;
 use doc_hub::refusal::HubError;
@@ -48,6 +48,24 @@ pub fn site_hub_beside<R: Renderer + Drop>(
     ensures fault { IfErr result (λ fault. fault ≢ Fault.Memory
         → site_world_beside config texts.now media ≡ Err fault) }
 {
+    site_hub_taking(heap, renderer, config, texts, media, true)
+}
+
+/// The same, which takes edits or takes none: then each request for one is answered that its method isn't allowed.
+pub fn site_hub_taking<R: Renderer + Drop>(
+    heap: Heap,
+    renderer: R,
+    config: SiteConfig,
+    texts: &[Text],
+    media: Option<Media>,
+    takes_edits: bool,
+) -> Result<Hub<R>, Fault>
+    ensures world { IfOk result
+        (λ hub. site_world_taking takes_edits config texts.now media ≡ Ok hub.1) }
+    ensures same { IfOk result (λ hub. R.page hub.0 ≡ R.page renderer) }
+    ensures fault { IfErr result (λ fault. fault ≢ Fault.Memory
+        → site_world_taking takes_edits config texts.now media ≡ Err fault) }
+{
     let SiteConfig {
         keep_alive,
         cache,
@@ -59,7 +77,7 @@ pub fn site_hub_beside<R: Renderer + Drop>(
     } = config;
     let settings = Settings {
         keep_alive,
-        takes_edits: true,
+        takes_edits,
         browse,
     };
     let mut hub = new_hub(heap, renderer, readers, settings, cache, media)?;

@@ -12,7 +12,7 @@ use Rattle.doc_server_arguments.specs.declared.log_form.LogForm.TheVariants.{Pla
 use Rattle.doc_server_arguments.specs.Addresses.{address_of, listen_address_of, v4_of, v6_of}
 use Rattle.doc_server_arguments.specs.Commands.{Asked, command_in, Demo, Render, Examples, Check, Replay, Serve, Listen, Compact, Folders, Lint, Token, TokenHash, Version, Help}
 use Rattle.doc_server_arguments.specs.ShownWords.{shown_word}
-use Rattle.doc_server_arguments.specs.Usage.{NoCommand, NoAddress, UnknownOption, StandsTwice, NeedsFile, NeedsAddress, NeedsGroups, usage_text}
+use Rattle.doc_server_arguments.specs.Usage.{NoCommand, NoAddress, UnknownOption, StandsTwice, NeedsFile, NeedsAddress, NeedsGroups, JournalAndFollow, usage_text}
 use Rattle.doc_server_arguments.specs.Versions.{version_lines}
 
 -- ---- addresses
@@ -133,11 +133,15 @@ abbrev listen_with : List (List ℕ) → List (List ℕ)
 listen_with options = codes "listen" ∷ codes "site.toml" ∷ codes "localhost:80" ∷ options
 
 abbrev listening : Option (List ℕ) → Option LogForm → Asked
-listening journal log = Listen (codes "site.toml") (codes "localhost:80") (local 80) journal log None
+listening journal log = Listen (codes "site.toml") (codes "localhost:80") (local 80) journal None log None
 
 -- the same, with monitors at port 9 of 127.0.0.1
 abbrev watched : Option (List ℕ) → Option LogForm → Asked
-watched journal log = Listen (codes "site.toml") (codes "localhost:80") (local 80) journal log (Some (local 9))
+watched journal log = Listen (codes "site.toml") (codes "localhost:80") (local 80) journal None log (Some (local 9))
+
+-- the same of a server that follows another's journal
+abbrev following : List ℕ → Option LogForm → Option SocketAddr → Asked
+following file log status = Listen (codes "site.toml") (codes "localhost:80") (local 80) None (Some file) log status
 
 listen : command_in (listen_with []) ≡ Ok (listening None None)
 unfolding address_of read_socket_v4 read_ipv4 read_octet read_number read_port
@@ -295,6 +299,79 @@ status_behind_another_fault : command_in (listen_with (codes "--log" ∷ codes "
 unfolding address_of read_socket_v4 read_ipv4 read_octet read_number read_port
 status_behind_another_fault = refl
 
+-- the journal of another server
+listen_following : command_in (listen_with (codes "--follow" ∷ codes "j" ∷ [])) ≡ Ok (following (codes "j") None None)
+unfolding address_of read_socket_v4 read_ipv4 read_octet read_number read_port
+listen_following = refl
+
+-- in each place among the others
+follow_log_status : command_in (listen_with (codes "--follow" ∷ codes "j" ∷ codes "--log" ∷ codes "--status" ∷ codes "127.0.0.1:9" ∷ []))
+    ≡ Ok (following (codes "j") (Some Plain) (Some (local 9)))
+unfolding address_of read_socket_v4 read_ipv4 read_octet read_number read_port
+follow_log_status = refl
+
+log_follow_status : command_in (listen_with (codes "--log=json" ∷ codes "--follow" ∷ codes "j" ∷ codes "--status" ∷ codes "127.0.0.1:9" ∷ []))
+    ≡ Ok (following (codes "j") (Some Json) (Some (local 9)))
+unfolding address_of read_socket_v4 read_ipv4 read_octet read_number read_port
+log_follow_status = refl
+
+status_log_follow : command_in (listen_with (codes "--status" ∷ codes "127.0.0.1:9" ∷ codes "--log" ∷ codes "--follow" ∷ codes "j" ∷ []))
+    ≡ Ok (following (codes "j") (Some Plain) (Some (local 9)))
+unfolding address_of read_socket_v4 read_ipv4 read_octet read_number read_port
+status_log_follow = refl
+
+-- what stands behind `--follow` is its file
+follow_of_that_name : command_in (listen_with (codes "--follow" ∷ codes "--journal" ∷ [])) ≡ Ok (following (codes "--journal") None None)
+unfolding address_of read_socket_v4 read_ipv4 read_octet read_number read_port
+follow_of_that_name = refl
+
+journal_named_follow : command_in (listen_with (codes "--journal" ∷ codes "--follow" ∷ [])) ≡ Ok (listening (Some (codes "--follow")) None)
+unfolding address_of read_socket_v4 read_ipv4 read_octet read_number read_port
+journal_named_follow = refl
+
+follow_without_file : command_in (listen_with (codes "--log" ∷ codes "--follow" ∷ [])) ≡ Err (NeedsFile (codes "--follow"))
+unfolding address_of read_socket_v4 read_ipv4 read_octet read_number read_port
+follow_without_file = refl
+
+follow_twice : command_in (listen_with (codes "--follow" ∷ codes "j" ∷ codes "--log" ∷ codes "--follow" ∷ codes "k" ∷ []))
+    ≡ Err (StandsTwice (codes "--follow"))
+unfolding address_of read_socket_v4 read_ipv4 read_octet read_number read_port
+follow_twice = refl
+
+follow_twice_without_file : command_in (listen_with (codes "--follow" ∷ codes "j" ∷ codes "--follow" ∷ []))
+    ≡ Err (StandsTwice (codes "--follow"))
+unfolding address_of read_socket_v4 read_ipv4 read_octet read_number read_port
+follow_twice_without_file = refl
+
+follow_in_capitals : command_in (listen_with (codes "--Follow" ∷ codes "j" ∷ [])) ≡ Err (UnknownOption (codes "--Follow"))
+unfolding address_of read_socket_v4 read_ipv4 read_octet read_number read_port
+follow_in_capitals = refl
+
+-- a server has a journal or follows another's
+journal_and_follow : command_in (listen_with (codes "--journal" ∷ codes "j" ∷ codes "--follow" ∷ codes "k" ∷ [])) ≡ Err JournalAndFollow
+unfolding address_of read_socket_v4 read_ipv4 read_octet read_number read_port
+journal_and_follow = refl
+
+follow_and_journal : command_in (listen_with (codes "--follow" ∷ codes "j" ∷ codes "--log" ∷ codes "--journal" ∷ codes "j" ∷ []))
+    ≡ Err JournalAndFollow
+unfolding address_of read_socket_v4 read_ipv4 read_octet read_number read_port
+follow_and_journal = refl
+
+-- that both stand is told where nothing else is
+both_without_file : command_in (listen_with (codes "--journal" ∷ codes "j" ∷ codes "--follow" ∷ [])) ≡ Err (NeedsFile (codes "--follow"))
+unfolding address_of read_socket_v4 read_ipv4 read_octet read_number read_port
+both_without_file = refl
+
+both_and_more : command_in (listen_with (codes "--journal" ∷ codes "j" ∷ codes "--follow" ∷ codes "k" ∷ codes "x" ∷ []))
+    ≡ Err (UnknownOption (codes "x"))
+unfolding address_of read_socket_v4 read_ipv4 read_octet read_number read_port
+both_and_more = refl
+
+both_and_again : command_in (listen_with (codes "--follow" ∷ codes "k" ∷ codes "--journal" ∷ codes "j" ∷ codes "--follow" ∷ codes "k" ∷ []))
+    ≡ Err (StandsTwice (codes "--follow"))
+unfolding address_of read_socket_v4 read_ipv4 read_octet read_number read_port
+both_and_again = refl
+
 -- the address stands before the options
 address_before_options : command_in (codes "listen" ∷ codes "site.toml" ∷ codes "--log" ∷ codes "what" ∷ []) ≡ Err NoAddress
 unfolding address_of read_socket_v4 read_socket_v6 read_ipv4 read_octet read_number
@@ -323,6 +400,10 @@ compact_with_status : command_in (codes "compact" ∷ codes "site.toml" ∷ code
     ≡ Err (UnknownOption (codes "--status"))
 compact_with_status = refl
 
+compact_with_follow : command_in (codes "compact" ∷ codes "site.toml" ∷ codes "--follow" ∷ codes "j" ∷ [])
+    ≡ Err (UnknownOption (codes "--follow"))
+compact_with_follow = refl
+
 compact_and_more : command_in (codes "compact" ∷ codes "site.toml" ∷ codes "--journal" ∷ codes "j" ∷ codes "x" ∷ [])
     ≡ Err (UnknownOption (codes "x"))
 compact_and_more = refl
@@ -340,6 +421,9 @@ lint_of_none = refl
 lint_with_status : command_in (codes "lint" ∷ codes "site.toml" ∷ codes "--journal" ∷ codes "j" ∷ codes "--status" ∷ [])
     ≡ Err (UnknownOption (codes "--status"))
 lint_with_status = refl
+
+lint_with_follow : command_in (codes "lint" ∷ codes "site.toml" ∷ codes "--follow" ∷ codes "j" ∷ []) ≡ Err (UnknownOption (codes "--follow"))
+lint_with_follow = refl
 
 lint_without_file : command_in (codes "lint" ∷ codes "site.toml" ∷ codes "--journal" ∷ []) ≡ Err (NeedsFile (codes "--journal"))
 lint_without_file = refl
@@ -400,6 +484,9 @@ no_file_told = refl
 no_address_told : usage_text (NeedsAddress (codes "--status")) ≡ codes "--status needs an address\ndocs_server: usage"
 unfolding percent_encode should_percent_encode
 no_address_told = refl
+
+both_told : usage_text JournalAndFollow ≡ codes "--journal and --follow exclude each other\ndocs_server: usage"
+both_told = refl
 
 -- an escape, a space, DEL and an accented letter stand by their numbers
 word_told : shown_word (27 ∷ codes "[31m a" ++ 127 ∷ 195 ∷ 169 ∷ []) ≡ codes "%1B[31m%20a%7F%C3%A9"

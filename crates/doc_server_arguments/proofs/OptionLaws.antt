@@ -12,8 +12,8 @@ use Rattle.doc_server_arguments.specs.declared.log_form.LogForm.{LogForm}
 use Rattle.doc_server_arguments.specs.declared.options.Known.{Known}
 use Rattle.doc_server_arguments.specs.declared.options.Known.TheVariants.{All, Journal}
 use Rattle.doc_server_arguments.specs.Addresses.{listen_address_of}
-use Rattle.doc_server_arguments.specs.Options.{Said, Stated, first_said, first_wrong, form_of, journal_in, journal_word, json_word, log_in, log_word, names_of, option_of, options_in, said_by, said_unless, stands, stated, status_in, status_word, wrong_address, wrong_behind, wrong_file, wrong_value}
-use Rattle.doc_server_arguments.specs.OptionSteps.{journal_taken, log_taken, onward, status_at, status_taken, taken_all, taken_one}
+use Rattle.doc_server_arguments.specs.Options.{Said, Stated, first_said, first_wrong, follow_in, follow_word, form_of, journal_in, journal_word, json_word, log_in, log_word, names_of, option_of, options_in, said_by, said_unless, stands, stated, status_in, status_word, wrong_address, wrong_behind, wrong_file, wrong_value}
+use Rattle.doc_server_arguments.specs.OptionSteps.{follow_taken, journal_taken, log_taken, onward, status_at, status_taken, taken_all, taken_one}
 use Rattle.doc_server_arguments.specs.Usage.{Wrong, NoAddress, UnknownOption, StandsTwice}
 
 -- ---- what is said first
@@ -91,6 +91,11 @@ journal_says word value h =
     some_where (bytes_eq word journal_word) value (λ is. file_there journal_word value (value_right word journal_word value h is))
     ∙ of_one_word word journal_word refl
 
+follow_says : Says follow_in follow_word
+follow_says word value h =
+    some_where (bytes_eq word follow_word) value (λ is. file_there follow_word value (value_right word follow_word value h is))
+    ∙ of_one_word word follow_word refl
+
 log_says : Says log_in log_word
 log_says word value h = some_where (bytes_eq (option_of word) log_word) (Some (form_of word)) (λ is. refl)
 
@@ -106,6 +111,7 @@ status_says word value h =
 abbrev with : Said → Stated → Said
 with said option = record {
   journal = option_or said.journal (journal_in option);
+  follow = option_or said.follow (follow_in option);
   log = option_or said.log (log_in option);
   status = option_or said.status (status_in option);
 }
@@ -113,6 +119,7 @@ with said option = record {
 said_more : (before : List Stated) (option : Stated) → with (said_by before) option ≡ said_by (before ++ option ∷ [])
 said_more before option i = record {
   journal = sym (first_more journal_in before option) i;
+  follow = sym (first_more follow_in before option) i;
   log = sym (first_more log_in before option) i;
   status = sym (first_more status_in before option) i;
 }
@@ -121,8 +128,9 @@ said_more before option i = record {
 abbrev known_taken : Said → Stated → Result Said Wrong
 known_taken said option =
     if bytes_eq option.word journal_word then journal_taken said option.word said.journal option.value
+    else (if bytes_eq option.word follow_word then follow_taken said option.word said.follow option.value
     else (if bytes_eq option.word status_word then status_taken said option.word said.status option.value
-    else log_taken said (form_of option.word) said.log)
+    else log_taken said (form_of option.word) said.log))
 
 abbrev known_wrong : Bool → Stated → Option Wrong
 known_wrong before option = if before then Some (StandsTwice (option_of option.word)) else wrong_value option
@@ -133,60 +141,93 @@ TakesIt before value word =
     ≡ said_unless (known_wrong (stands (option_of word) before) (record { word = word; value = value }))
     (with (said_by before) (record { word = word; value = value }))
 
-journal_one : (journal : Option (List ℕ)) (log : Option LogForm) (status : Option SocketAddr) (value : Option (List ℕ))
-    → journal_taken (record { journal = journal; log = log; status = status }) journal_word journal value
-    ≡ said_unless (if is_some journal then Some (StandsTwice journal_word) else wrong_file journal_word value)
-    (record { journal = option_or journal value; log = option_or log None; status = option_or status None })
-journal_one (Some before) log status value = refl
-journal_one None log status None = refl
-journal_one None log status (Some file) = rw (none_more log, none_more status) refl
+journal_one : (journal follow : Option (List ℕ)) (log : Option LogForm) (status : Option SocketAddr) (value : Option (List ℕ))
+    → journal_taken (record { journal = journal; follow = follow; log = log; status = status }) journal_word journal value
+    ≡ said_unless (if is_some journal then Some (StandsTwice journal_word) else wrong_file journal_word value) (record {
+      journal = option_or journal value;
+      follow = option_or follow None;
+      log = option_or log None;
+      status = option_or status None;
+    })
+journal_one (Some before) follow log status value = refl
+journal_one None follow log status None = refl
+journal_one None follow log status (Some file) = rw (none_more follow, none_more log, none_more status) refl
 
-log_one : (form : LogForm) (journal : Option (List ℕ)) (log : Option LogForm) (status : Option SocketAddr)
-    → log_taken (record { journal = journal; log = log; status = status }) form log
-    ≡ said_unless (if is_some log then Some (StandsTwice log_word) else None)
-    (record { journal = option_or journal None; log = option_or log (Some form); status = option_or status None })
-log_one form journal (Some before) status = refl
-log_one form journal None status = rw (none_more journal, none_more status) refl
+follow_one : (journal follow : Option (List ℕ)) (log : Option LogForm) (status : Option SocketAddr) (value : Option (List ℕ))
+    → follow_taken (record { journal = journal; follow = follow; log = log; status = status }) follow_word follow value
+    ≡ said_unless (if is_some follow then Some (StandsTwice follow_word) else wrong_file follow_word value) (record {
+      journal = option_or journal None;
+      follow = option_or follow value;
+      log = option_or log None;
+      status = option_or status None;
+    })
+follow_one journal (Some before) log status value = refl
+follow_one journal None log status None = refl
+follow_one journal None log status (Some file) = rw (none_more journal, none_more log, none_more status) refl
 
-status_read : (journal : Option (List ℕ)) (log : Option LogForm) (read : Option SocketAddr)
-    → status_at (record { journal = journal; log = log; status = None }) read
-    ≡ said_unless (if is_none read then Some NoAddress else None)
-    (record { journal = option_or journal None; log = option_or log None; status = read })
-status_read journal log None = refl
-status_read journal log (Some address) = rw (none_more journal, none_more log) refl
+log_one : (form : LogForm) (journal follow : Option (List ℕ)) (log : Option LogForm) (status : Option SocketAddr)
+    → log_taken (record { journal = journal; follow = follow; log = log; status = status }) form log
+    ≡ said_unless (if is_some log then Some (StandsTwice log_word) else None) (record {
+      journal = option_or journal None;
+      follow = option_or follow None;
+      log = option_or log (Some form);
+      status = option_or status None;
+    })
+log_one form journal follow (Some before) status = refl
+log_one form journal follow None status = rw (none_more journal, none_more follow, none_more status) refl
 
-status_one : (journal : Option (List ℕ)) (log : Option LogForm) (status : Option SocketAddr) (value : Option (List ℕ))
-    → status_taken (record { journal = journal; log = log; status = status }) status_word status value
+status_read : (journal follow : Option (List ℕ)) (log : Option LogForm) (read : Option SocketAddr)
+    → status_at (record { journal = journal; follow = follow; log = log; status = None }) read
+    ≡ said_unless (if is_none read then Some NoAddress else None) (record {
+      journal = option_or journal None;
+      follow = option_or follow None;
+      log = option_or log None;
+      status = read;
+    })
+status_read journal follow log None = refl
+status_read journal follow log (Some address) = rw (none_more journal, none_more follow, none_more log) refl
+
+status_one : (journal follow : Option (List ℕ)) (log : Option LogForm) (status : Option SocketAddr) (value : Option (List ℕ))
+    → status_taken (record { journal = journal; follow = follow; log = log; status = status }) status_word status value
     ≡ said_unless (if is_some status then Some (StandsTwice status_word) else wrong_address status_word value) (record {
       journal = option_or journal None;
+      follow = option_or follow None;
       log = option_or log None;
       status = option_or status (option_and_then listen_address_of value);
     })
-status_one journal log (Some before) value = refl
-status_one journal log None None = refl
-status_one journal log None (Some written) = status_read journal log (listen_address_of written)
+status_one journal follow log (Some before) value = refl
+status_one journal follow log None None = refl
+status_one journal follow log None (Some written) = status_read journal follow log (listen_address_of written)
 
 takes_journal : (before : List Stated) (value : Option (List ℕ)) → whole before ≡ true → TakesIt before value journal_word
 takes_journal before value h =
-    journal_one (first_said journal_in before) (first_said log_in before) (first_said status_in before) value
+    journal_one (first_said journal_in before) (first_said follow_in before) (first_said log_in before) (first_said status_in before) value
     ∙ ap (λ b. said_unless (known_wrong b (record { word = journal_word; value = value }))
     (with (said_by before) (record { word = journal_word; value = value }))) (first_given journal_in journal_word journal_says before h)
 
+takes_follow : (before : List Stated) (value : Option (List ℕ)) → whole before ≡ true → TakesIt before value follow_word
+takes_follow before value h =
+    follow_one (first_said journal_in before) (first_said follow_in before) (first_said log_in before) (first_said status_in before) value
+    ∙ ap (λ b. said_unless (known_wrong b (record { word = follow_word; value = value }))
+    (with (said_by before) (record { word = follow_word; value = value }))) (first_given follow_in follow_word follow_says before h)
+
 takes_log : (before : List Stated) (value : Option (List ℕ)) → whole before ≡ true → TakesIt before value log_word
 takes_log before value h =
-    log_one (form_of log_word) (first_said journal_in before) (first_said log_in before) (first_said status_in before)
+    log_one (form_of log_word) (first_said journal_in before) (first_said follow_in before) (first_said log_in before)
+    (first_said status_in before)
     ∙ ap (λ b. said_unless (known_wrong b (record { word = log_word; value = value }))
     (with (said_by before) (record { word = log_word; value = value }))) (first_given log_in log_word log_says before h)
 
 takes_json : (before : List Stated) (value : Option (List ℕ)) → whole before ≡ true → TakesIt before value json_word
 takes_json before value h =
-    log_one (form_of json_word) (first_said journal_in before) (first_said log_in before) (first_said status_in before)
+    log_one (form_of json_word) (first_said journal_in before) (first_said follow_in before) (first_said log_in before)
+    (first_said status_in before)
     ∙ ap (λ b. said_unless (known_wrong b (record { word = json_word; value = value }))
     (with (said_by before) (record { word = json_word; value = value }))) (first_given log_in log_word log_says before h)
 
 takes_status : (before : List Stated) (value : Option (List ℕ)) → whole before ≡ true → TakesIt before value status_word
 takes_status before value h =
-    status_one (first_said journal_in before) (first_said log_in before) (first_said status_in before) value
+    status_one (first_said journal_in before) (first_said follow_in before) (first_said log_in before) (first_said status_in before) value
     ∙ ap (λ b. said_unless (known_wrong b (record { word = status_word; value = value }))
     (with (said_by before) (record { word = status_word; value = value }))) (first_given status_in status_word status_says before h)
 
@@ -205,9 +246,13 @@ one_of Holds word (name ∷ names) each is = by (bytes_eq word name) refl is (λ
     by true e some rest = subst Holds (sym ((bytes_eq-Decides word name).0 e)) each.0
     by false e some rest = rest some
 
-takes_each : (known : Known) (before : List Stated) (value : Option (List ℕ)) → whole before ≡ true → Each (TakesIt before value) (names_of known)
-takes_each All before value h =
-    (takes_journal before value h, (takes_log before value h, (takes_json before value h, (takes_status before value h, tt))))
+takes_others : (before : List Stated) (value : Option (List ℕ)) → whole before ≡ true
+    → Each (TakesIt before value) (log_word ∷ json_word ∷ status_word ∷ [])
+takes_others before value h = (takes_log before value h, (takes_json before value h, (takes_status before value h, tt)))
+
+takes_each : (known : Known) (before : List Stated) (value : Option (List ℕ)) → whole before ≡ true
+    → Each (TakesIt before value) (names_of known)
+takes_each All before value h = (takes_journal before value h, (takes_follow before value h, takes_others before value h))
 takes_each Journal before value h = (takes_journal before value h, tt)
 
 if_known : (b : Bool) (word : List ℕ) (taken : Result Said Wrong) (wrong : Option Wrong) (said : Said)
@@ -260,5 +305,5 @@ taken_is known before (option ∷ rest) h =
 
 -- all of them, from none on
 pub all_taken : (known : Known) (words : List (List ℕ))
-    → taken_all known (record { journal = None; log = None; status = None }) (stated words) ≡ options_in known words
+    → taken_all known (record { journal = None; follow = None; log = None; status = None }) (stated words) ≡ options_in known words
 all_taken known words = taken_is known [] (stated words) refl

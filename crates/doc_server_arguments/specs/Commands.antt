@@ -1,5 +1,5 @@
 -- What a line of words asks for: the arguments behind the name of the program.
-use Rattle.std.specs.Prelude.{ℕ, List, [], ◌∷◌, Bool, bytes_eq, codes, Option, Some, None, Result, Ok, Err, if◌then◌else◌}
+use Rattle.std.specs.Prelude.{ℕ, List, [], ◌∷◌, Bool, bytes_eq, codes, Option, Some, None, is_some, Result, Ok, Err, ◌&&◌, if◌then◌else◌}
 use Rattle.std.specs.declared.net.socket_addr.SocketAddr.{SocketAddr}
 use Rattle.doc_server_arguments.specs.declared.log_form.LogForm.{LogForm}
 use Rattle.doc_server_arguments.specs.declared.options.Known.TheVariants as known
@@ -7,7 +7,7 @@ use Rattle.doc_server_arguments.specs.Addresses.{address_of, listen_address_of}
 use Rattle.doc_server_arguments.specs.Numbers.{count_of}
 use Rattle.doc_server_arguments.specs.Options.{Said, options_in}
 use Rattle.doc_server_arguments.specs.TokenWords.{Given, given_in}
-use Rattle.doc_server_arguments.specs.Usage.{Wrong, NoCommand, NoAddress, UnknownOption}
+use Rattle.doc_server_arguments.specs.Usage.{Wrong, NoCommand, NoAddress, UnknownOption, JournalAndFollow}
 
 -- what a line may ask for. An address stands as it is written, and as it is read
 pub data Asked : Type 0 where
@@ -17,8 +17,8 @@ pub data Asked : Type 0 where
   Check : (config token : List ℕ) → Asked
   Replay : (config : List ℕ) → Asked
   Serve : (config written : List ℕ) (address : SocketAddr) (count turns : ℕ) → Asked
-  Listen : (config written : List ℕ) (address : SocketAddr) (journal : Option (List ℕ)) (log : Option LogForm) (status : Option SocketAddr)
-      → Asked
+  Listen : (config written : List ℕ) (address : SocketAddr) (journal follow : Option (List ℕ)) (log : Option LogForm)
+      (status : Option SocketAddr) → Asked
   Compact : (config journal : List ℕ) → Asked
   Folders : (config : List ℕ) → Asked
   Lint : (config : List ℕ) (journal : Option (List ℕ)) → Asked
@@ -58,9 +58,11 @@ serve_in (config ∷ written ∷ count ∷ turns ∷ []) =
     serve_with config written (address_of written) (count_of count) (count_of turns)
 serve_in words = Err NoCommand
 
--- a command `listen` of which the options are read
+-- a command `listen` of which the options are read. A server has a journal or follows another's, and not both
 abbrev pub listen_saying : List ℕ → List ℕ → SocketAddr → Result Said Wrong → Result Asked Wrong
-listen_saying config written address (Ok said) = Ok (Listen config written address said.journal said.log said.status)
+listen_saying config written address (Ok said) =
+    if is_some said.journal && is_some said.follow then Err JournalAndFollow
+    else Ok (Listen config written address said.journal said.follow said.log said.status)
 listen_saying config written address (Err wrong) = Err wrong
 
 -- the same, of which the address is read
@@ -68,7 +70,7 @@ abbrev pub listen_at : List ℕ → List ℕ → Option SocketAddr → List (Lis
 listen_at config written None options = Err NoAddress
 listen_at config written (Some address) options = listen_saying config written address (options_in known.All options)
 
--- `listen CONFIG ADDR [--journal FILE] [--log | --log=json] [--status ADDR]`
+-- `listen CONFIG ADDR [--journal FILE | --follow FILE] [--log | --log=json] [--status ADDR]`
 abbrev pub listen_in : List (List ℕ) → Result Asked Wrong
 listen_in (config ∷ written ∷ options) = listen_at config written (listen_address_of written) options
 listen_in words = Err NoCommand

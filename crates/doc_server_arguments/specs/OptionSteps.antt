@@ -8,23 +8,33 @@ use Rattle.doc_server_arguments.specs.declared.options.Known.{Known}
 use Rattle.doc_server_arguments.specs.declared.options.Options.{Options}
 use Rattle.doc_server_arguments.specs.declared.usage_fault.UsageFault.{UsageFault}
 use Rattle.doc_server_arguments.specs.Addresses.{listen_address_of}
-use Rattle.doc_server_arguments.specs.Options.{Said, Stated, form_of, journal_word, log_word, names_of, stated, status_word}
+use Rattle.doc_server_arguments.specs.Options.{Said, Stated, follow_word, form_of, journal_word, log_word, names_of, stated, status_word}
 use Rattle.doc_server_arguments.specs.Texts.{texts}
 use Rattle.doc_server_arguments.specs.Usage.{Wrong, NoAddress, UnknownOption, StandsTwice, NeedsFile, NeedsAddress, fault_shown}
 
 -- what options say, of those that the code has
 abbrev pub said_so_far : Options → Said
-said_so_far options = record { journal = option_copied options.journal; log = options.log; status = options.status }
+said_so_far options = record {
+  journal = option_copied options.journal;
+  follow = option_copied options.follow;
+  log = options.log;
+  status = options.status;
+}
 
 abbrev pub shown_options : Result Options UsageFault → Result Said Wrong
 shown_options (Ok options) = Ok (said_so_far options)
 shown_options (Err fault) = Err (fault_shown fault)
 
--- a file that the option before which it stands takes, by what an earlier one took
+-- a file that the option before which it stands takes, by what an earlier one took: the journal, or the one that is followed
 abbrev pub journal_taken : Said → List ℕ → Option (List ℕ) → Option (List ℕ) → Result Said Wrong
 journal_taken said word (Some before) file = Err (StandsTwice word)
 journal_taken said word None None = Err (NeedsFile word)
 journal_taken said word None (Some file) = Ok (record said { journal = Some file })
+
+abbrev pub follow_taken : Said → List ℕ → Option (List ℕ) → Option (List ℕ) → Result Said Wrong
+follow_taken said word (Some before) file = Err (StandsTwice word)
+follow_taken said word None None = Err (NeedsFile word)
+follow_taken said word None (Some file) = Ok (record said { follow = Some file })
 
 -- the log in this form, by what an earlier option said of it
 abbrev pub log_taken : Said → LogForm → Option LogForm → Result Said Wrong
@@ -47,8 +57,9 @@ abbrev pub taken_one : Known → Said → Stated → Result Said Wrong
 taken_one known said option =
     if not (list_any (bytes_eq option.word) (names_of known)) then Err (UnknownOption option.word)
     else (if bytes_eq option.word journal_word then journal_taken said option.word said.journal option.value
+    else (if bytes_eq option.word follow_word then follow_taken said option.word said.follow option.value
     else (if bytes_eq option.word status_word then status_taken said option.word said.status option.value
-    else log_taken said (form_of option.word) said.log))
+    else log_taken said (form_of option.word) said.log)))
 
 -- what a function says of what is said
 abbrev pub onward : (Said → Result Said Wrong) → Result Said Wrong → Result Said Wrong

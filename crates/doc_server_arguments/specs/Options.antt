@@ -14,6 +14,9 @@ use Rattle.doc_server_arguments.specs.Usage.{Wrong, NoAddress, UnknownOption, St
 abbrev pub journal_word : List ℕ
 journal_word = codes "--journal"
 
+abbrev pub follow_word : List ℕ
+follow_word = codes "--follow"
+
 abbrev pub log_word : List ℕ
 log_word = codes "--log"
 
@@ -32,12 +35,12 @@ form_of word = if bytes_eq word json_word then Json else Plain
 
 -- the words of the options that a command has
 abbrev pub names_of : Known → List (List ℕ)
-names_of All = journal_word ∷ log_word ∷ json_word ∷ status_word ∷ []
+names_of All = journal_word ∷ follow_word ∷ log_word ∷ json_word ∷ status_word ∷ []
 names_of Journal = journal_word ∷ []
 
 -- whether a value stands behind the option: a file or an address
 abbrev pub takes_value : List ℕ → Bool
-takes_value word = bytes_eq word journal_word || bytes_eq word status_word
+takes_value word = bytes_eq word journal_word || (bytes_eq word follow_word || bytes_eq word status_word)
 
 -- an option as it stands in a line: its word, and its value
 pub record Stated : Type 0 where
@@ -70,7 +73,8 @@ wrong_address word (Some written) = if is_none (listen_address_of written) then 
 abbrev pub wrong_value : Stated → Option Wrong
 wrong_value option =
     if bytes_eq option.word journal_word then wrong_file option.word option.value
-    else (if bytes_eq option.word status_word then wrong_address option.word option.value else None)
+    else (if bytes_eq option.word follow_word then wrong_file option.word option.value
+    else (if bytes_eq option.word status_word then wrong_address option.word option.value else None))
 
 -- what is wrong with an option that stands behind these
 abbrev pub wrong_behind : Known → List Stated → Stated → Option Wrong
@@ -84,15 +88,19 @@ first_wrong known before [] = None
 first_wrong known before (option ∷ rest) =
     option_or (wrong_behind known before option) (first_wrong known (before ++ option ∷ []) rest)
 
--- what options say: the file of the journal, how requests are logged, and where monitors are answered
+-- what options say: the file of the journal, that of the journal that is followed, how requests are logged, and where monitors are answered
 pub record Said : Type 0 where
   pub journal : Option (List ℕ)
+  pub follow : Option (List ℕ)
   pub log : Option LogForm
   pub status : Option SocketAddr
 
 -- what one option says of each
 abbrev pub journal_in : Stated → Option (List ℕ)
 journal_in option = if bytes_eq option.word journal_word then option.value else None
+
+abbrev pub follow_in : Stated → Option (List ℕ)
+follow_in option = if bytes_eq option.word follow_word then option.value else None
 
 abbrev pub log_in : Stated → Option LogForm
 log_in option = if bytes_eq (option_of option.word) log_word then Some (form_of option.word) else None
@@ -106,7 +114,12 @@ first_said said_in [] = None
 first_said said_in (option ∷ rest) = option_or (said_in option) (first_said said_in rest)
 
 abbrev pub said_by : List Stated → Said
-said_by options = record { journal = first_said journal_in options; log = first_said log_in options; status = first_said status_in options }
+said_by options = record {
+  journal = first_said journal_in options;
+  follow = first_said follow_in options;
+  log = first_said log_in options;
+  status = first_said status_in options;
+}
 
 abbrev pub said_unless : Option Wrong → Said → Result Said Wrong
 said_unless None said = Ok said

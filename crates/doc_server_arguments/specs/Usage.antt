@@ -5,7 +5,8 @@ use Rattle.doc_server_arguments.specs.declared.usage_fault.UsageFault.TheVariant
 use Rattle.doc_server_arguments.specs.ShownWords.{shown_word}
 
 -- what isn't understood: the words are no command; ADDR of `listen` or of its `--status` is no address; a word is no option of its
--- command, or one that stands before already, or one that has no file behind it, no address, or no names of groups
+-- command, or one that stands before already, or one that has no file behind it, no address, or no names of groups; two options that
+-- exclude each other both stand
 pub data Wrong : Type 0 where
   NoCommand : Wrong
   NoAddress : Wrong
@@ -14,6 +15,7 @@ pub data Wrong : Type 0 where
   NeedsFile : List ℕ → Wrong
   NeedsAddress : List ℕ → Wrong
   NeedsGroups : Wrong
+  JournalAndFollow : Wrong
 
 -- the same as the code has it
 abbrev pub fault_shown : UsageFault → Wrong
@@ -24,6 +26,7 @@ fault_shown (faults.NeedsFile word) = NeedsFile word.now
 fault_shown (faults.NeedsAddress word) = NeedsAddress word.now
 fault_shown faults.NeedsGroups = NeedsGroups
 fault_shown (faults.StandsTwice word) = StandsTwice word.now
+fault_shown faults.JournalAndFollow = JournalAndFollow
 
 -- how it is told, behind `docs_server: `
 abbrev pub usage_text : Wrong → List ℕ
@@ -34,3 +37,4 @@ usage_text (StandsTwice word) = shown_word word ++ codes " stands twice\ndocs_se
 usage_text (NeedsFile word) = shown_word word ++ codes " needs a file\ndocs_server: usage"
 usage_text (NeedsAddress word) = shown_word word ++ codes " needs an address\ndocs_server: usage"
 usage_text NeedsGroups = codes "--groups needs names of groups: a,b\ndocs_server: usage"
+usage_text JournalAndFollow = codes "--journal and --follow exclude each other\ndocs_server: usage"

@@ -66,6 +66,8 @@ pub struct Listen<'a> {
     pub address: SocketAddr,
     /// The file of the journal, where there is one.
     pub journal: Option<&'a str>,
+    /// The file of the journal that it follows, where it follows one: another server's. There is then no journal of its own.
+    pub follow: Option<&'a str>,
     /// How each request is logged, where it is.
     pub log: Option<LogForm>,
     /// Where monitors are answered, if they are.

@@ -107,7 +107,7 @@ fn serve_of(words: &[String]) -> Result<Command<'_>, UsageFault<'_>>
     }))
 }
 
-/// `listen CONFIG ADDR [--journal FILE] [--log | --log=json] [--status ADDR]`
+/// `listen CONFIG ADDR [--journal FILE | --follow FILE] [--log | --log=json] [--status ADDR]`
 fn listen_of(words: &[String]) -> Result<Command<'_>, UsageFault<'_>>
     ensures { shown_command result ≡ listen_in (texts words.now) }
 {
@@ -118,11 +118,15 @@ fn listen_of(words: &[String]) -> Result<Command<'_>, UsageFault<'_>>
         return Err(UsageFault::Address);
     };
     let options = options_of(Known::All, options)?;
+    if options.journal.is_some() && options.follow.is_some() {
+        return Err(UsageFault::JournalAndFollow);
+    }
     Ok(Command::Listen(Listen {
         config: config.as_str(),
         written: written.as_str(),
         address,
         journal: options.journal,
+        follow: options.follow,
         log: options.log,
         status: options.status,
     }))

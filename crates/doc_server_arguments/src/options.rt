@@ -15,7 +15,7 @@ use std::net::SocketAddr;
 /// Which options a command has.
 #[derive(Clone, Copy, Debug, PartialEq, Eq)]
 pub(crate) enum Known {
-    /// `--journal FILE`, `--log` or `--log=json`, and `--status ADDR`.
+    /// `--journal FILE`, `--follow FILE`, `--log` or `--log=json`, and `--status ADDR`.
     All,
     /// `--journal FILE` alone.
     Journal,
@@ -26,6 +26,8 @@ pub(crate) enum Known {
 pub(crate) struct Options<'a> {
     /// The file of the journal, where there is one.
     pub(crate) journal: Option<&'a str>,
+    /// The file of the journal that is followed, where one is.
+    pub(crate) follow: Option<&'a str>,
     /// How each request is logged, where it is.
     pub(crate) log: Option<LogForm>,
     /// Where monitors are answered, if they are.
@@ -41,6 +43,7 @@ pub(crate) fn options_of<'a>(
 {
     let mut options = Options {
         journal: None,
+        follow: None,
         log: None,
         status: None,
     };
@@ -54,7 +57,7 @@ pub(crate) fn options_of<'a>(
 }
 
 /// The options with one more, and the words behind that.
-#[tactic(auto, using(crate::proofs::TakenLaws::none_of_four))]
+#[tactic(auto, using(crate::proofs::TakenLaws::none_of_five))]
 fn taken<'a>(
     known: Known,
     options: Options<'a>,
@@ -72,6 +75,11 @@ fn taken<'a>(
             Ok((Options { journal, ..options }, rest))
         }
         _ if known == Known::Journal => Err(UsageFault::UnknownOption(option)),
+        "--follow" => {
+            let (file, rest) = file_of(option, options.follow, behind)?;
+            let follow = Some(file);
+            Ok((Options { follow, ..options }, rest))
+        }
         "--log" => {
             let options = logged(options, LogForm::Plain)?;
             Ok((options, behind))

@@ -4,7 +4,7 @@ use crate::shown_word::ShownWord;
 use std::fmt;
 
 /// What isn't understood of the arguments. It is printed as `usage`, and but for `Command` with a line above it. Of several faults it is
-/// the first by the order of the words.
+/// the first by the order of the words, and `JournalAndFollow` only where there is no other.
 #[derive(Clone, Copy, Debug, PartialEq, Eq)]
 pub enum UsageFault<'a> {
     /// No command, or not the words that it wants.
@@ -21,6 +21,8 @@ pub enum UsageFault<'a> {
     NeedsGroups,
     /// This option stands before already.
     StandsTwice(&'a str),
+    /// `--journal` and `--follow` both stand.
+    JournalAndFollow,
 }
 
 impl fmt::Display for UsageFault<'_> {
@@ -54,6 +56,9 @@ impl fmt::Display for UsageFault<'_> {
             UsageFault::StandsTwice(word) => {
                 let word = ShownWord::new(word);
                 write!(f, "{word} stands twice\ndocs_server: usage")
+            }
+            UsageFault::JournalAndFollow => {
+                f.write_str("--journal and --follow exclude each other\ndocs_server: usage")
             }
         }
     }

@@ -55,9 +55,9 @@ given_serve old new stay (events.Reader edit) (given, was, is) = (given, stay (S
 -- what is of a configuration that was given is a server's
 pub of_given : (answered : Option Given → Type 0) (given : Given) → answered (Some given) → (e : Event) → IsOfGiven given e
     → IsOfServer answered e
-of_given answered given was events.Connect is = absurd is
-of_given answered given was (events.On id call) is = absurd is
-of_given answered given was (events.TakePuts takes) is = absurd is
+of_given answered given was events.Connect is = tt
+of_given answered given was (events.On id call) is = tt
+of_given answered given was (events.TakePuts takes) is = tt
 of_given answered given was (events.Site edit) is = (given, was, is)
 of_given answered given was (events.Reader edit) is = (given, was, is)
 

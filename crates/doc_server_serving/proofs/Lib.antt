@@ -29,6 +29,7 @@ mod TakeSteps
 mod TurnSteps
 mod Turning
 pub mod Tables
+mod Visits
 pub mod Wiring
 mod Walks
 mod Hosted

@@ -50,7 +50,7 @@ few_steps c n run within =
 
 -- ---- bytes
 
-nothing_sent : (a b c : List ℕ) → b ≡ a ++ c → length b ≤ length a → c ≡ []
+pub nothing_sent : (a b c : List ℕ) → b ≡ a ++ c → length b ≤ length a → c ≡ []
 nothing_sent a b [] is le = ap (λ l. []) is
 nothing_sent a b (x ∷ c) is le = absurd (omega (arith, le, ap length is, length-append a (x ∷ c)))
 

@@ -12,9 +12,11 @@ use Rattle.doc_hub.proofs.RunParts.{pushed_join, sent_join}
 use Rattle.doc_media.specs.Media.{Media}
 use Rattle.doc_server_journal.specs.declared.journal.Journal.{Journal}
 use Rattle.doc_server_network.specs.Reloads.{IsOfStart, IsReloading, IsRestarted, Reloads}
-use Rattle.doc_server_serving.specs.Leading.{IsOfGiven, LeadsQuietlyBy}
+use Rattle.doc_server_network.specs.Followings.{EditsAlone}
+use Rattle.doc_server_serving.specs.Leading.{IsEdit, IsOfConfiguration, IsOfGiven, LeadsQuietlyBy}
 use Rattle.doc_server_serving.specs.Sites.{IsSameSite}
-use Rattle.doc_server_serving.specs.declared.given.Given.{Given}
+use Rattle.doc_server_serving.specs.declared.given.Configuration.{Configuration}
+use Rattle.doc_server_serving.specs.declared.given.Given.TheVariants as givens
 use Rattle.doc_server_serving.proofs.Leading.{leads_on, leads_wider, nothing_on}
 use Rattle.doc_store.specs.Store.{StoreState}
 use Rattle.doc_store.specs.declared.site_edit.SiteEdit.{SiteEdit}
@@ -35,7 +37,7 @@ quiet_wider own more render w v wider a =
     record { leads = leads_wider own more render w v wider a.leads; pushes = a.pushes; sends = a.sends }
 
 -- the edits of a reload
-module _ (given : Given) where
+module _ (given : Configuration) where
   edits_alone : (e : Event) → IsReloading given.pages e → (edit : SiteEdit) × (e ≡ events.Site edit)
   edits_alone events.Connect is = absurd is
   edits_alone (events.On id call) is = absurd is
@@ -43,24 +45,45 @@ module _ (given : Given) where
   edits_alone (events.Reader edit) is = absurd is
   edits_alone (events.TakePuts takes) is = absurd is
 
-  are_given : (e : Event) → IsReloading given.pages e → IsOfGiven given e
+  are_given : (e : Event) → IsReloading given.pages e → IsOfConfiguration given e
   are_given events.Connect is = absurd is
   are_given (events.On id call) is = absurd is
   are_given (events.Site edit) is = is
   are_given (events.Reader edit) is = absurd is
   are_given (events.TakePuts takes) is = absurd is
 
-  pub quiet_reload : (render : Renders) (w v : World) → Reloads given.pages render w v → LeadsQuietlyBy (IsOfGiven given) render w v
+  pub quiet_reload : (render : Renders) (w v : World) → Reloads given.pages render w v
+      → LeadsQuietlyBy (IsOfGiven (givens.Configuration given)) render w v
   quiet_reload render w v is = record {
     leads = record {
       run = is.run;
       runs = is.runs;
-      own = All-weaker (λ h. IsReloading given.pages h.event) (λ h. IsOfGiven given h.event) (λ h of. are_given h.event of) is.run is.own;
+      own = All-weaker (λ h. IsReloading given.pages h.event) (λ h. IsOfConfiguration given h.event) (λ h of. are_given h.event of)
+          is.run is.own;
     };
     pushes = λ k.
         ap (flat_map (λ h. pushed_by h.event h.outcome)) (nothing_on (IsReloading given.pages) edits_alone k is.run is.own);
     sends = λ k. ap (flat_map (λ h. sent_by h.outcome)) (nothing_on (IsReloading given.pages) edits_alone k is.run is.own);
   }
+
+-- the edits of records that are followed
+edits_are : (e : Event) → IsEdit e → (edit : SiteEdit) × (e ≡ events.Site edit)
+edits_are events.Connect is = absurd is
+edits_are (events.On id call) is = absurd is
+edits_are (events.Site edit) is = (edit, refl)
+edits_are (events.Reader edit) is = absurd is
+edits_are (events.TakePuts takes) is = absurd is
+
+pub quiet_follow : (texts : List (List ℕ)) (render : Renders) (w v : World) → EditsAlone render w v
+    → LeadsQuietlyBy (IsOfGiven (givens.Records texts)) render w v
+quiet_follow texts render w v is =
+    let own = All-weaker (λ h. (edit : SiteEdit) × (h.event ≡ events.Site edit)) (λ h. IsEdit h.event)
+    (λ h of. subst IsEdit (sym of.1) tt) is.run is.own in
+    record {
+      leads = record { run = is.run; runs = is.runs; own = own };
+      pushes = λ k. ap (flat_map (λ h. pushed_by h.event h.outcome)) (nothing_on IsEdit edits_are k is.run own);
+      sends = λ k. ap (flat_map (λ h. sent_by h.outcome)) (nothing_on IsEdit edits_are k is.run own);
+    }
 
 -- the site that stands stays so with other readers
 pub restarted_too : {D : Type 0} (seen : D → Option (List ℕ)) (may_leave : D → List ℕ → Type 0) (failed : D → Bool) (stale : D → ℕ → Type 0)

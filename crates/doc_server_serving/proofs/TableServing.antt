@@ -22,10 +22,12 @@ use Rattle.doc_server_serving.specs.Hearing.{HearsAll}
 use Rattle.doc_server_serving.specs.Servings.{Served, ServedAt, Serves, ServesAll}
 use Rattle.doc_server_serving.specs.Parts.{times_among}
 use Rattle.doc_server_serving.specs.Sharing.{SharesTurn}
+use Rattle.doc_server_serving.specs.Visits.{AreEither}
 use Rattle.doc_server_serving.specs.Wirings.{Peer, Table}
 use Rattle.doc_server_serving.proofs.Hearing.{all_hear_join}
 use Rattle.doc_server_serving.proofs.ServingSteps.{served_join}
 use Rattle.doc_server_serving.proofs.Tables.{apart, get_other, get_same}
+use Rattle.doc_server_serving.proofs.Visits.{either_join}
 use Rattle.doc_server_serving.proofs.Wiring.{not_both}
 
 abbrev pub IsOfAny : List ℕ → Happened → Type 0
@@ -230,16 +232,18 @@ shares_join ready more xs ys a b c one two = record {
 -- ---- clients, with what they cost
 
 abbrev pub AllSharing : Renders → World → World → List ℕ → (ℕ → Option (List ℕ)) → (ℕ → Option (List ℕ)) → (ℕ → Type 0) → Table → Table → Left
-    → Left → Type 0
-AllSharing render w v ready came later ended s t l m =
+    → Left → Bool → Type 0
+AllSharing render w v ready came later ended s t l m follows =
     (a : ServesAll render w v ready came later ended s t) × SharesTurn ready a.run l m × HearsAll ready a.run s t
+    × (follows ≡ true → AreEither ready a.run)
 
 pub all_sharing_join : (render page : Renders) (w v u : World) (ready more : List ℕ) (came mid later : ℕ → Option (List ℕ))
-    (ended closed : ℕ → Type 0) (r s t : Table) (l m n : Left) → page ≡ render → Stays ended closed
-    → AllSharing render w v ready came mid ended r s l m → AllSharing page v u more mid later closed s t m n
-    → AllSharing render w u (ready ++ more) came later closed r t l n
-all_sharing_join render page w v u ready more came mid later ended closed r s t l m n same stays a b = (
+    (ended closed : ℕ → Type 0) (r s t : Table) (l m n : Left) (follows : Bool) → page ≡ render → Stays ended closed
+    → AllSharing render w v ready came mid ended r s l m follows → AllSharing page v u more mid later closed s t m n follows
+    → AllSharing render w u (ready ++ more) came later closed r t l n follows
+all_sharing_join render page w v u ready more came mid later ended closed r s t l m n follows same stays a b = (
   serves_all_join render page w v u ready more came mid later ended closed r s t same stays a.0 b.0,
   shares_join ready more a.0.run b.0.run l m n a.1 b.1,
   all_hear_join ready more a.0.run b.0.run r s t a.2 b.2,
+  λ is. either_join ready more a.0.run b.0.run (a.3 is) (b.3 is),
 )

@@ -1,5 +1,5 @@
 -- The parts of a turn, one behind the other.
-use Rattle.std.proofs.Common.{◌≡◌, ◌++◌, ℕ, List, refl, sym, ap, subst, ◌∙◌}
+use Rattle.std.proofs.Common.{◌≡◌, ◌++◌, ℕ, List, Bool, true, refl, sym, ap, subst, ◌∙◌}
 use Rattle.std.specs.Prelude.{Option, Some, None, Result, Ok, Err, OnErr}
 use Rattle.std.specs.FinMap as map
 use Rattle.doc_hub_answers.specs.Replies.{Renders}
@@ -13,6 +13,7 @@ use Rattle.doc_server_serving.specs.Servings.{ServedAt, ServesAll}
 use Rattle.doc_server_serving.specs.Hearing.{SparesAll}
 use Rattle.doc_server_serving.specs.Sharing.{IsModest, SharesTurn}
 use Rattle.doc_server_serving.specs.Turns.{IsLeft, Turns}
+use Rattle.doc_server_serving.specs.Visits.{AreEither}
 use Rattle.doc_server_serving.specs.Wirings.{Peer, Table, Wired, Gives, GivesOne, LingerAll, LingersAt, TakesInAt}
 use Rattle.doc_server_serving.proofs.Hearing.{Heard, heard_begun, heard_ended, spares_join}
 use Rattle.doc_server_serving.proofs.Modesty.{few_bytes, modest}
@@ -119,29 +120,33 @@ module _ (render : Renders) (w v : World) (ready : List ℕ) (c0 c2 c3 c4 g0 g2 
 -- ---- with what it costs
 
 abbrev pub TurnsSharing : Renders → World → World → List ℕ → (ℕ → Option (List ℕ)) → (ℕ → Option (List ℕ)) → (ℕ → Option (List ℕ))
-    → (ℕ → Option (List ℕ)) → Table → Table → Left → Left → Type 0
-TurnsSharing render w v ready c d g h before after l m =
+    → (ℕ → Option (List ℕ)) → Table → Table → Left → Left → Bool → Type 0
+TurnsSharing render w v ready c d g h before after l m follows =
     (s : Turns render w v ready c d g h before after) × SharesTurn ready s.run l m × IsModest ready s.run
-    × Heard ready s.run before after
+    × Heard ready s.run before after × (follows ≡ true → AreEither ready s.run)
 
 pub begun_sharing : (render : Renders) (w v u : World) (ready : List ℕ) (c0 c1 c2 g0 g1 g2 : ℕ → Option (List ℕ)) (given ended : ℕ → Type 0)
-    (t0 t1 t2 : Table) (l m : Left) → u ≡ v → Gives g0 g1 given t0 t1 → SparesAll t0 t1 → Rests c0 c1 → AllSharing render w v ready c1 c2 ended t1 t2 l m
-    → Rests g1 g2 → TurnsSharing render w u ready c0 c2 g0 g2 t0 t2 l m
-begun_sharing render w v u ready c0 c1 c2 g0 g1 g2 given ended t0 t1 t2 l m same gives spares came s gone =
-    subst (λ (x : World). TurnsSharing render w x ready c0 c2 g0 g2 t0 t2 l m) (sym same) (
+    (t0 t1 t2 : Table) (l m : Left) (follows : Bool) → u ≡ v → Gives g0 g1 given t0 t1 → SparesAll t0 t1 → Rests c0 c1
+    → AllSharing render w v ready c1 c2 ended t1 t2 l m follows
+    → Rests g1 g2 → TurnsSharing render w u ready c0 c2 g0 g2 t0 t2 l m follows
+begun_sharing render w v u ready c0 c1 c2 g0 g1 g2 given ended t0 t1 t2 l m follows same gives spares came s gone =
+    subst (λ (x : World). TurnsSharing render w x ready c0 c2 g0 g2 t0 t2 l m follows) (sym same) (
       turn_begun render w v ready c0 c1 c2 g0 g1 g2 given ended t0 t1 t2 gives came s.0 gone,
       s.1,
       modest ready s.0.run l m s.1
           (λ k. few_bytes k w v (c1 k) (c2 k) (ended k) s.0.run (map.get t1 k) (map.get t2 k) (s.0.each k)),
       heard_begun ready s.0.run t0 t1 t2 spares s.2,
+      s.3,
     )
 
 pub ended_sharing : (render : Renders) (w v : World) (ready : List ℕ) (c0 c2 c3 c4 g0 g2 g3 g4 : ℕ → Option (List ℕ)) (given : ℕ → Type 0)
-    (t0 t2 t3 t4 : Table) (l m : Left) → TurnsSharing render w v ready c0 c2 g0 g2 t0 t2 l m → Gives g2 g3 given t2 t3 → Rests c2 c3
-    → LingerAll c3 c4 t3 t4 → SparesAll t2 t3 → SparesAll t3 t4 → Rests g3 g4 → TurnsSharing render w v ready c0 c4 g0 g4 t0 t4 l m
-ended_sharing render w v ready c0 c2 c3 c4 g0 g2 g3 g4 given t0 t2 t3 t4 l m a gives came lingers sent ended gone = (
+    (t0 t2 t3 t4 : Table) (l m : Left) (follows : Bool) → TurnsSharing render w v ready c0 c2 g0 g2 t0 t2 l m follows
+    → Gives g2 g3 given t2 t3 → Rests c2 c3
+    → LingerAll c3 c4 t3 t4 → SparesAll t2 t3 → SparesAll t3 t4 → Rests g3 g4 → TurnsSharing render w v ready c0 c4 g0 g4 t0 t4 l m follows
+ended_sharing render w v ready c0 c2 c3 c4 g0 g2 g3 g4 given t0 t2 t3 t4 l m follows a gives came lingers sent ended gone = (
   turn_ended render w v ready c0 c2 c3 c4 g0 g2 g3 g4 given t0 t2 t3 t4 a.0 gives came lingers gone,
   a.1,
   a.2,
   heard_ended ready a.0.run t0 t2 t4 a.3 (spares_join t2 t3 t4 sent ended),
+  a.4,
 )

@@ -8,7 +8,9 @@ use Rattle.doc_hub_events.specs.declared.event.Event.TheVariants as events
 use Rattle.doc_hub_events.specs.declared.event.ReaderEdit.TheVariants as reader_edits
 use Rattle.doc_hub.specs.Worlds.{World}
 use Rattle.doc_server_network.specs.Reloads.{IsOnTheWay}
+use Rattle.doc_server_serving.specs.declared.given.Configuration.{Configuration}
 use Rattle.doc_server_serving.specs.declared.given.Given.{Given}
+use Rattle.doc_server_serving.specs.declared.given.Given.TheVariants as givens
 
 -- a connect, a push, a step or a disconnect, or whether puts are taken
 abbrev pub IsOfPeers : Event → Type 0
@@ -17,13 +19,23 @@ IsOfPeers (events.On id call) = ⊤
 IsOfPeers (events.TakePuts takes) = ⊤
 IsOfPeers event = ⊥
 
--- the readers of a configuration that is given, all at once; or an edit on the way to what a start over its pages would serve
-abbrev pub IsOfGiven : Given → Event → Type 0
-IsOfGiven given (events.Reader (reader_edits.All readers)) = readers ≡ given.readers
-IsOfGiven given (events.Site edit) = IsOnTheWay given.pages edit
-IsOfGiven given event = ⊥
+-- the readers of a configuration, all at once; or an edit on the way to what a start over its pages would serve
+abbrev pub IsOfConfiguration : Configuration → Event → Type 0
+IsOfConfiguration given (events.Reader (reader_edits.All readers)) = readers ≡ given.readers
+IsOfConfiguration given (events.Site edit) = IsOnTheWay given.pages edit
+IsOfConfiguration given event = ⊥
 
--- an event of peers, or of a configuration that somebody who was asked has answered
+-- an edit of the site
+abbrev pub IsEdit : Event → Type 0
+IsEdit (events.Site edit) = ⊤
+IsEdit event = ⊥
+
+-- an event of what is given: records are followed by edits
+abbrev pub IsOfGiven : Given → Event → Type 0
+IsOfGiven (givens.Configuration given) event = IsOfConfiguration given event
+IsOfGiven (givens.Records texts) event = IsEdit event
+
+-- an event of peers, or of what somebody who was asked has answered
 abbrev pub IsOfServer : (Option Given → Type 0) → Event → Type 0
 IsOfServer answered (events.Reader edit) =
     (given : Given) × answered (Some given) × IsOfGiven given (events.Reader edit)

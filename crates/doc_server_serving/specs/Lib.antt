@@ -21,6 +21,7 @@ pub mod Wirings
 pub mod Hostings
 pub mod Hosts
 pub mod Unready
+pub mod Visits
 -- words of these definitions, for the crates above
 pub use Rattle.doc_server_network.specs.Memories
 pub use Rattle.doc_server_network.specs.Networks

@@ -1,6 +1,7 @@
 //! Why a server ends.
 
 use doc_page_parts::failure::Memory;
+use doc_server_network::follow_fault::FollowFault;
 use doc_server_network::net_fault::NetFault;
 use doc_server_settling::fault::TurnFault;
 use std::alloc::AllocError;
@@ -17,6 +18,9 @@ pub enum ServeFault {
     CannotWrite,
     #[error("{}", Memory)]
     Memory,
+    /// Another server can't be followed any more.
+    #[error("{0}")]
+    Follow(FollowFault),
 }
 
 impl From<NetFault> for ServeFault {
@@ -52,5 +56,16 @@ impl From<TurnFault> for ServeFault {
             TurnFault::Memory => ServeFault::Memory,
             TurnFault::CannotWrite => ServeFault::CannotWrite,
         }
+    }
+}
+
+impl From<FollowFault> for ServeFault {
+    ghost use Rattle.std.specs.Prelude.{◌≡◌};
+    ghost use Rattle.doc_server_serving.specs.declared.fault.ServeFault.TheVariants as faults;
+
+    ghost from_gives = { λ e fault. fault ≡ faults.Follow e };
+
+    fn from(e: FollowFault) -> ServeFault {
+        ServeFault::Follow(e)
     }
 }

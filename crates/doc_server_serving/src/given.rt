@@ -1,11 +1,22 @@
 //! What a server is given while it serves.
 
+use doc_page_parts::bytes::Bytes;
+use doc_page_parts::list::List;
 use doc_store::readers::Readers;
 use doc_store::store::Store;
 
-/// Readers and pages of a configuration, which are served from here on. On the pages stand the edits of the journal besides.
+/// What a server is given while it serves.
 #[derive(Drop)]
-pub struct Given {
+pub enum Given {
+    /// A configuration, by which it serves from here on.
+    Configuration(Configuration),
+    /// The texts of records that another server has written, which it follows.
+    Records(List<Bytes>),
+}
+
+/// Readers and pages of a configuration. On the pages stand the edits of the journal besides.
+#[derive(Drop)]
+pub struct Configuration {
     pub readers: Readers,
     pub pages: Store,
 }

@@ -10,6 +10,7 @@ ghost use Rattle.doc_server_serving.specs.Parts.{StayBut, is_over_at, numbers_of
 ghost use Rattle.doc_server_serving.specs.Servings.{ServesAll};
 ghost use Rattle.doc_server_serving.specs.Sharing.{SharesTurn};
 ghost use Rattle.doc_server_serving.specs.Sweeps.{Sweeps, swept};
+ghost use Rattle.doc_server_serving.specs.Visits.{AreEither};
 ghost use Rattle.doc_server_serving.specs.Wirings.{AreWoken, EndAll, EndsAt, Gives, HasSentAt, HaveSent, IsFedAt, LingerAll, SweptAll, WokeAt, new_peer};
 
 use crate::client::Client;
@@ -141,8 +142,8 @@ impl Peers {
         client.send(id, net, permit);
     }
 
-    /// Reads and steps the clients of these numbers. Nothing is handed over. The share says what the steps may cost, and is left what they
-    /// did.
+    /// Reads and steps the clients of these numbers, or where another server is followed does either. Nothing is handed over. The share says
+    /// what the steps may cost, and is left what they did.
     pub fn take_in_all<N: Network, D: Device, R: Renderer + Drop>(
         &mut self,
         ready: &[u64],
@@ -150,11 +151,13 @@ impl Peers {
         saved: &mut SavedHub<D, R>,
         piece: &mut [u8],
         share: &mut Share,
+        follows: bool,
     )
         ensures serves { (s : ServesAll (R.page saved.old.hub.0) saved.old.hub.1 saved.new.hub.1 ready.now
             (N.came net.old) (N.came net.new) (N.has_ended net.new) self.old self.new)
             × SharesTurn ready.now s.run share.old share.new
-            × HearsAll ready.now s.run self.old self.new }
+            × HearsAll ready.now s.run self.old self.new
+            × (follows ≡ true → AreEither ready.now s.run) }
         ensures others { StayBut ready.now self.old self.new }
         ensures gone { Rests (N.gone net.old) (N.gone net.new) }
         ensures woken { AreWoken (N.wakes net.old) self.old → AreWoken (N.wakes net.new) self.new }
@@ -169,7 +172,7 @@ impl Peers {
         ensures room { length piece.new ≡ length piece.old }
     {
         'numbers: for id in ready {
-            self.take_in_at(*id, net, saved, piece, share);
+            self.take_in_at(*id, net, saved, piece, share, follows);
         }
     }
 
@@ -181,11 +184,13 @@ impl Peers {
         saved: &mut SavedHub<D, R>,
         piece: &mut [u8],
         share: &mut Share,
+        follows: bool,
     )
         ensures serves { (s : ServesAll (R.page saved.old.hub.0) saved.old.hub.1 saved.new.hub.1 (id ∷ [])
             (N.came net.old) (N.came net.new) (N.has_ended net.new) self.old self.new)
             × SharesTurn (id ∷ []) s.run share.old share.new
-            × HearsAll (id ∷ []) s.run self.old self.new }
+            × HearsAll (id ∷ []) s.run self.old self.new
+            × (follows ≡ true → AreEither (id ∷ []) s.run) }
         ensures others { (k : ℕ) → (k == id) ≡ false → map.get self.new k ≡ map.get self.old k }
         ensures gone { Rests (N.gone net.old) (N.gone net.new) }
         ensures woken { AreWoken (N.wakes net.old) self.old → AreWoken (N.wakes net.new) self.new }
@@ -203,7 +208,7 @@ impl Peers {
         let Some(client) = self.clients.get_mut(&id) else {
             return;
         };
-        client.take_in(id, net, saved, piece, share);
+        client.take_in(id, net, saved, piece, share, follows);
     }
 
     /// Ends the part of the clients of these numbers in a turn.

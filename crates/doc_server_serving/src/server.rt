@@ -1,6 +1,6 @@
 //! The loop over a network.
 
-ghost use Rattle.std.specs.Prelude.{◌≡◌, ◌≤◌, ℕ, false, true, IfErr, IfOk, OnOk, if◌then◌else◌};
+ghost use Rattle.std.specs.Prelude.{◌≡◌, ◌≤◌, ◌||◌, ℕ, false, true, IfErr, IfOk, OnOk, if◌then◌else◌};
 ghost use Rattle.std.specs.FinMap as map;
 ghost use Rattle.std.specs.List.{list_any};
 ghost use Rattle.doc_hub.specs.Worlds.{World};
@@ -18,11 +18,12 @@ ghost use Rattle.doc_server_serving.specs.Parts.{AreMinded, NoMore, takes_part_a
 ghost use Rattle.doc_server_serving.specs.Sites.{IsSameSite};
 ghost use Rattle.doc_server_serving.specs.Wirings.{AreWoken, IsFedAt, SweptAll};
 ghost use Rattle.doc_server_serving.specs.declared.fault.ServeFault.TheVariants as faults;
+ghost use Rattle.doc_server_serving.specs.declared.given.Given.TheVariants as givens;
 ghost use Rattle.doc_store.specs.Store.{StoreState};
 
 use crate::door::Door;
 use crate::fault::ServeFault;
-use crate::given::Given;
+use crate::given::{Configuration, Given};
 use crate::letting_go::let_go;
 use crate::limits::Limits;
 use crate::named_file::NamedFile;
@@ -51,6 +52,9 @@ const PIECE: usize = 16_384;
 
 /// How long the network is waited for at most, in milliseconds: a little longer than it is to the next sweep.
 const WAIT: u64 = 260;
+
+/// How long it is waited for at most where another server is followed, in milliseconds.
+const LOOK_WAIT: u64 = 20;
 
 /// How long it is at least from one sweep to the next, in milliseconds.
 const SWEEP: u64 = 250;
@@ -107,8 +111,8 @@ impl Server {
     }
 
     /// Serves until standard input ends, where the network tells of that, with the readers and the pages that the hub has, and behind each
-    /// turn in which something has come there with those that the source gives. The journal gets its room first. Behind 2^64 - 1 turns it
-    /// ends as where the network can't be waited for.
+    /// turn in which something has come there, or each where the source follows another server, with those that it gives. The journal gets
+    /// its room first. Behind 2^64 - 1 turns it ends as where the network can't be waited for.
     pub fn serve<N: Network, D: Device + NamedFile, R: Renderer + Drop, C: Clock, S: Source>(
         &mut self,
         rt: &C,
@@ -155,7 +159,8 @@ impl Server {
         Err(ServeFault::Socket)
     }
 
-    /// One turn, and behind it what the source gives, where something has come on standard input. True: it has ended.
+    /// One turn, and behind it what the source gives, where something has come on standard input or it follows another server. True: it has
+    /// ended.
     fn go_on<N: Network, D: Device + NamedFile, R: Renderer + Drop, C: Clock, S: Source>(
         &mut self,
         rt: &C,
@@ -168,8 +173,9 @@ impl Server {
         requires ready { IsReady D.seen D.may_leave D.failed D.stale saved.old }
         requires free { AreFree saved.old.hub.1.given (N.is_free net.old) }
         ensures keeps { StayAnswered (S.answered source.old) (S.answered source.new) }
+        ensures follows { S.follows source.new ≡ S.follows source.old }
         ensures takes { IfOk result (λ has_ended. has_ended ≡ false
-            → next.new.hears_input ≡ true → (before : World)
+            → (next.new.hears_input || S.follows source.old) ≡ true → (before : World)
             × IsTaken D.seen D.may_leave D.failed D.stale (S.answered source.new)
             (S.told source.new) before saved.new.hub.1 saved.new.journal) }
         ensures bound { map.len self.old.peers ≤ self.old.door.most
@@ -193,24 +199,28 @@ impl Server {
             (RestoresFront config (R.page saved.old.hub.0) saved.old.hub.1 s.leads.run)
             saved.old.journal saved.new.journal) }
     {
-        if self.turn(rt, net, saved, next)? {
+        let follows = source.follows();
+        if self.turn(rt, net, saved, next, follows)? {
             return Ok(true);
         }
         source.note(saved.pages(), saved.journal_bytes());
-        if !next.hears_input() {
+        let has_input = next.hears_input();
+        if !is_asked(has_input, follows) {
             return Ok(false);
         }
-        take_given(self.heap, source, saved)?;
+        take_given(self.heap, source, saved, has_input)?;
         Ok(false)
     }
 
-    /// One turn. True: standard input has ended, and nobody is accepted any more.
+    /// One turn. Where another server is followed, what comes in it is answered in the next. True: standard input has ended, and nobody is
+    /// accepted any more.
     pub fn turn<N: Network, D: Device + NamedFile, R: Renderer + Drop, C: Clock>(
         &mut self,
         rt: &C,
         net: &mut N,
         saved: &mut SavedHub<D, R>,
         next: &mut NextTurn,
+        follows: bool,
     ) -> Result<bool, ServeFault>
         requires all { IsAllSaved saved.old }
         requires ready { IsReady D.seen D.may_leave D.failed D.stale saved.old }
@@ -244,12 +254,12 @@ impl Server {
             (RestoresEither config saved.old.hub.1 saved.new.hub.1)
             saved.old.journal saved.new.journal }
     {
-        net.wait(self.longest_wait(next.goes_on()))?;
+        net.wait(self.longest_wait(next.goes_on(), follows))?;
         let now = time_of(rt, self.swept);
         look(self.heap, &mut self.looked, saved, now)?;
         let news = wake_told(&mut self.peers, net);
         self.door.hear(&news);
-        self.serve_ready(rt, net, saved, next)?;
+        self.serve_ready(rt, net, saved, next, follows)?;
         let ends = news.input_has_ended;
         if ends {
             return Ok(true);
@@ -260,9 +270,12 @@ impl Server {
     }
 
     /// How long the network is waited for: not at all where something is left to do.
-    fn longest_wait(&self, goes_on: bool) -> Duration {
+    fn longest_wait(&self, goes_on: bool, follows: bool) -> Duration {
         if goes_on || self.door.is_open(&self.peers) {
             return Duration::from_millis(0);
+        }
+        if follows {
+            return Duration::from_millis(LOOK_WAIT);
         }
         Duration::from_millis(WAIT)
     }
@@ -274,6 +287,7 @@ impl Server {
         net: &mut N,
         saved: &mut SavedHub<D, R>,
         next: &mut NextTurn,
+        follows: bool,
     ) -> Result<(), ServeFault>
         requires all { IsAllSaved saved.old }
         requires ready { IsReady D.seen D.may_leave D.failed D.stale saved.old }
@@ -318,6 +332,7 @@ impl Server {
             &mut self.piece,
             &mut share,
             seconds_of(rt),
+            follows,
         )?;
         let first = number_at(self.ready.as_slice(), share.behind());
         next.serve(first, self.peers.goes_on(self.ready.as_slice()));
@@ -417,17 +432,26 @@ impl Server {
     }
 }
 
-/// Has the hub go by the readers and the pages that the source gives, where it gives any, and tells it what came of them.
+/// Whether the source is asked behind a turn: where something has come on standard input, or it follows another server.
+fn is_asked(has_input: bool, follows: bool) -> bool
+    ensures { result ≡ (has_input || follows) }
+{
+    has_input || follows
+}
+
+/// Has the hub go by what the source gives, where it gives anything, and tells it what came of a configuration.
 fn take_given<S: Source, D: Device, R: Renderer + Drop>(
     heap: Heap,
     source: &mut S,
     saved: &mut SavedHub<D, R>,
+    has_input: bool,
 ) -> Result<(), ServeFault>
     requires all { IsAllSaved saved.old }
     requires ready { IsReady D.seen D.may_leave D.failed D.stale saved.old }
     ensures quiet { LeadsQuietlyBy (IsOfServer (S.answered source.new)) (R.page saved.old.hub.0)
         saved.old.hub.1 saved.new.hub.1 }
     ensures keeps { StayAnswered (S.answered source.old) (S.answered source.new) }
+    ensures follows { S.follows source.new ≡ S.follows source.old }
     ensures takes { OnOk result (IsTaken D.seen D.may_leave D.failed D.stale
         (S.answered source.new) (S.told source.new) saved.old.hub.1 saved.new.hub.1
         saved.new.journal) }
@@ -445,11 +469,15 @@ fn take_given<S: Source, D: Device, R: Renderer + Drop>(
         → CrashesLeave D.seen D.moment D.left_since
         (Restores config begin) saved.old.journal saved.new.journal }
 {
-    let Some(given) = source.hear(saved.media()) else {
-        return Ok(());
-    };
-    let outcome = reload(heap, saved, given)?;
-    source.tell(outcome);
+    let given = source.hear(saved.media(), has_input)?;
+    match given {
+        Some(Given::Configuration(configuration)) => {
+            let outcome = reload(heap, saved, configuration)?;
+            source.tell(outcome);
+        }
+        Some(Given::Records(texts)) => saved.follow(heap, texts.get())?,
+        None => (),
+    }
     Ok(())
 }
 
@@ -457,29 +485,29 @@ fn take_given<S: Source, D: Device, R: Renderer + Drop>(
 fn reload<D: Device, R: Renderer + Drop>(
     heap: Heap,
     saved: &mut SavedHub<D, R>,
-    given: Given,
+    configuration: Configuration,
 ) -> Result<Result<Reloaded, Refusal>, ServeFault>
     requires all { IsAllSaved saved.old }
     requires ready { IsReady D.seen D.may_leave D.failed D.stale saved.old }
-    ensures quiet { LeadsQuietlyBy (IsOfGiven given) (R.page saved.old.hub.0)
+    ensures quiet { LeadsQuietlyBy (IsOfGiven (givens.Configuration configuration)) (R.page saved.old.hub.0)
         saved.old.hub.1 saved.new.hub.1 }
     ensures outcome { IfOk result (λ outcome. IsOutcome D.seen D.may_leave D.failed D.stale
-        saved.old.hub.1 saved.new.hub.1 saved.new.journal given outcome) }
+        saved.old.hub.1 saved.new.hub.1 saved.new.journal configuration outcome) }
     ensures given { saved.new.hub.1.given ≡ saved.old.hub.1.given }
     ensures same { R.page saved.new.hub.0 ≡ R.page saved.old.hub.0 }
     ensures all { OnOk result (IsAllSaved saved.new) }
     ensures ready { OnOk result (IsReady D.seen D.may_leave D.failed D.stale saved.new) }
     ensures settled { (config : StoreState)
         → IsSettled D.seen D.may_leave D.failed D.stale config saved.old
-        → IsOfCalls given.pages.site → IfOk result (λ outcome.
-        IsSettled D.seen D.may_leave D.failed D.stale (config_behind config given outcome)
+        → IsOfCalls configuration.pages.site → IfOk result (λ outcome.
+        IsSettled D.seen D.may_leave D.failed D.stale (config_behind config configuration outcome)
         saved.new) }
     ensures any_moment { (config : StoreState) (begin : World)
         → IsSaved D.seen D.may_leave D.failed D.stale config begin saved.old
         → CrashesLeave D.seen D.moment D.left_since
         (Restores config begin) saved.old.journal saved.new.journal }
 {
-    let Given { readers, pages } = given;
+    let Configuration { readers, pages } = configuration;
     match saved.reload(heap, pages) {
         Ok(reloaded) => {
             saved.set_readers(readers);

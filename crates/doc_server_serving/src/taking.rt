@@ -12,6 +12,7 @@ ghost use Rattle.doc_server_serving.specs.Hearing.{Hears, IsReader, WasHeard};
 ghost use Rattle.doc_server_serving.specs.Replies.{most_pending};
 ghost use Rattle.doc_server_serving.specs.Servings.{Answers, Serves};
 ghost use Rattle.doc_server_serving.specs.Strangers.{has_unread};
+ghost use Rattle.doc_server_serving.specs.Visits.{IsEither};
 
 use crate::client::Client;
 use crate::stage::Stage;
@@ -33,7 +34,8 @@ const MOST_PENDING: usize = 262_144;
 
 impl Client {
     /// Where nothing is pending, reads once, pushes and steps, as far as the share of the turn goes. The edits of these steps wait to be
-    /// settled, and so do the replies: nothing is handed over.
+    /// settled, and so do the replies: nothing is handed over. Where another server is followed what was read is stepped in the next turn,
+    /// behind a look at what that server has written meanwhile.
     pub fn take_in<N: Network, D: Device, R: Renderer + Drop>(
         &mut self,
         id: u64,
@@ -41,11 +43,13 @@ impl Client {
         saved: &mut SavedHub<D, R>,
         piece: &mut [u8],
         share: &mut Share,
+        follows: bool,
     )
         ensures serves { (s : Serves (R.page saved.old.hub.0) saved.old.hub.1 saved.new.hub.1 id
             (N.came net.old id) (N.came net.new id) (N.has_ended net.new id) self.old self.new)
             × IsWithin s.run share.old share.new × Hears id s.run self.old self.new
-            × (IsReader self.old → WasHeard id s.run self.new) }
+            × (IsReader self.old → WasHeard id s.run self.new)
+            × (follows ≡ true → IsEither id s.run) }
         ensures others { RestsBut id (N.came net.old) (N.came net.new) }
         ensures gone { Rests (N.gone net.old) (N.gone net.new) }
         ensures woken { (self.old.rests ≡ true → N.wakes net.old id)
@@ -64,7 +68,14 @@ impl Client {
         if self.is_idle() {
             return;
         }
+        if !self.reads() {
+            self.answer(id, saved, share);
+            return;
+        }
         self.read(id, net, saved, piece);
+        if follows {
+            return;
+        }
         if !self.is_open() {
             return;
         }
@@ -89,7 +100,7 @@ impl Client {
         self.stage == Stage::Reads
     }
 
-    /// Reads once, where a step has said that what was read holds no further request, and pushes what came.
+    /// Reads once, and pushes what came. A step has said that what was read before holds no further request.
     fn read<N: Network, D: Device, R: Renderer + Drop>(
         &mut self,
         id: u64,
@@ -117,9 +128,6 @@ impl Client {
         ensures journal { saved.new.journal ≡ saved.old.journal }
         ensures room { length piece.new ≡ length piece.old }
     {
-        if !self.reads() {
-            return;
-        }
         match net.read(id, piece) {
             Ok(Came::Bytes(count)) => {
                 self.silence.hear();

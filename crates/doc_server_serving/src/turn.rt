@@ -1,6 +1,6 @@
 //! Turns: clients are served, and nothing that a turn answers is handed over before its edits are on the device.
 
-ghost use Rattle.std.specs.Prelude.{◌≡◌, ℕ, length, Contains, IsErrOf, OnErr, OnOk};
+ghost use Rattle.std.specs.Prelude.{◌≡◌, ℕ, true, length, Contains, IsErrOf, OnErr, OnOk};
 ghost use Rattle.std.specs.FinMap as map;
 ghost use Rattle.doc_hub.specs.Worlds.{World};
 ghost use Rattle.doc_server_network.specs.Networks.{Recalls, Rests, Stays};
@@ -10,6 +10,7 @@ ghost use Rattle.doc_server_serving.specs.Hearing.{HeardAt, SparesAll, WaitOn};
 ghost use Rattle.doc_server_serving.specs.Parts.{StayBut};
 ghost use Rattle.doc_server_serving.specs.Sharing.{IsModest, SharesTurn};
 ghost use Rattle.doc_server_serving.specs.Turns.{Turns};
+ghost use Rattle.doc_server_serving.specs.Visits.{AreEither};
 ghost use Rattle.doc_server_serving.specs.Wirings.{AreWoken, EndAll, Gives, GivesFronts, HaveSent};
 ghost use Rattle.doc_store.specs.Store.{StoreState};
 
@@ -23,8 +24,8 @@ use doc_server_network::saved_hub::SavedHub;
 use doc_server_settling::fault::TurnFault;
 
 /// One turn of the clients of these numbers, so many seconds behind the beginning of 1970: what is pending is handed over, they are read and
-/// stepped, their edits are settled, and the replies are handed over. After an `Err` the server ends: the edits of the turn aren't kept, and
-/// none of its replies was handed over.
+/// stepped, their edits are settled, and the replies are handed over. Where another server is followed whoever is read isn't stepped. After an
+/// `Err` the server ends: the edits of the turn aren't kept, and none of its replies was handed over.
 pub fn turn<N: Network, D: Device, R: Renderer + Drop>(
     heap: Heap,
     peers: &mut Peers,
@@ -34,6 +35,7 @@ pub fn turn<N: Network, D: Device, R: Renderer + Drop>(
     piece: &mut [u8],
     share: &mut Share,
     seconds: u64,
+    follows: bool,
 ) -> Result<(), TurnFault>
     requires all { IsAllSaved saved.old }
     requires ready { IsReady D.seen D.may_leave D.failed D.stale saved.old }
@@ -50,7 +52,8 @@ pub fn turn<N: Network, D: Device, R: Renderer + Drop>(
         (N.came net.old) (N.came net.new) (N.gone net.old) (N.gone net.new) peers.old peers.new)
         × SharesTurn ready.now s.run share.old share.new × IsModest ready.now s.run
         × ((k : ℕ) → Contains ready.now k
-        → HeardAt k s.run (map.get peers.old k) (map.get peers.new k)) }
+        → HeardAt k s.run (map.get peers.old k) (map.get peers.new k))
+        × (follows ≡ true → AreEither ready.now s.run) }
     ensures waits_on { WaitOn peers.old peers.new }
     ensures others { StayBut ready.now peers.old peers.new }
     ensures time { OnOk result (WasWrittenAt seconds saved.old.journal saved.new.journal) }
@@ -67,7 +70,7 @@ pub fn turn<N: Network, D: Device, R: Renderer + Drop>(
     ensures room { length piece.new ≡ length piece.old }
 {
     send_settled(peers, ready, net, saved);
-    peers.take_in_all(ready, net, saved, piece, share);
+    peers.take_in_all(ready, net, saved, piece, share, follows);
     saved.settle(heap, seconds)?;
     send_settled(peers, ready, net, saved);
     peers.finish_all(ready, net, piece);

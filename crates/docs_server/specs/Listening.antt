@@ -1,16 +1,18 @@
 -- What the command `listen` is of, and what stops it.
-use Rattle.std.specs.Prelude.{◌≡◌, ◌++◌, List, None, Ok}
+use Rattle.std.specs.Prelude.{◌≡◌, ◌++◌, ℕ, List, Bool, Some, None, Ok}
 use Rattle.toml.specs.Data.{Members}
+use Rattle.doc_hub.specs.Worlds.{World, store_of, with_store}
+use Rattle.doc_media.specs.Media.{Media}
+use Rattle.doc_server.specs.Sites.{site_world_taking}
 use Rattle.doc_server_config.specs.declared.config.SiteConfig.{SiteConfig}
 use Rattle.doc_server_config.specs.declared.page_row.PageRow.{PageRow}
 use Rattle.doc_server_config.specs.declared.page_row.Source.TheVariants as sources
 use Rattle.doc_server_config.specs.declared.folder_pages.FolderPage.{FolderPage}
 use Rattle.doc_server_config.specs.Configurations.{config_of_document}
 use Rattle.doc_server_config.specs.Overlaps.{first_overlap, paths_of}
-use Rattle.doc_server_streams.specs.declared.fault.Fault.{Fault}
-use Rattle.doc_server_streams.specs.declared.fault.Fault.TheVariants as faults
-use Rattle.doc_server_serving.specs.declared.fault.ServeFault.{ServeFault}
-use Rattle.doc_server_serving.specs.declared.fault.ServeFault.TheVariants as serve_faults
+use Rattle.doc_server_config.specs.declared.readme.Move.{Move}
+use Rattle.doc_server_restore.specs.Restores.{all_made}
+use Rattle.docs_server.specs.Moving.{edits_of_moves}
 
 -- a page of a folder, as one of the configuration
 abbrev pub row_of : FolderPage → PageRow
@@ -36,8 +38,10 @@ pub record HasOwnPaths (config : SiteConfig) : Type 0 where
   pub is_own : config_of_document document ≡ Ok own
   pub others : HasOthers own.pages config.pages
 
--- where the server doesn't run
-abbrev pub serve_fault_of : ServeFault → Fault
-serve_fault_of serve_faults.Socket = faults.Socket
-serve_fault_of serve_faults.CannotWrite = faults.CannotWrite
-serve_fault_of serve_faults.Memory = faults.Memory
+-- The world of a configured site beside media, which takes edits or none, behind the moves of its READMEs.
+pub record IsReady (takes : Bool) (config : SiteConfig) (texts : List (List ℕ)) (media : Media) (moves : List Move)
+    (world : World) : Type 0 where
+  pub first : World
+  pub stands : site_world_taking takes config texts media ≡ Ok first
+  pub moved : all_made first.media (store_of first) (edits_of_moves moves) ≡ Some (store_of world)
+  pub others : world ≡ with_store first (store_of world)

@@ -5,6 +5,7 @@ use Rattle.doc_server_config.specs.declared.config.SiteConfig.{SiteConfig}
 use Rattle.doc_server_config.specs.declared.readme.Move.{Move}
 use Rattle.doc_server_restore.specs.Restores.{all_made, unstamped}
 use Rattle.doc_server_serving.specs.declared.given.Given.{Given}
+use Rattle.doc_server_serving.specs.declared.given.Given.TheVariants as givens
 use Rattle.doc_server.specs.Sites.{site_world}
 use Rattle.docs_server.specs.Compacting.{store_in}
 use Rattle.docs_server.specs.Moving.{edits_of_moves}
@@ -18,7 +19,9 @@ pub record IsConfigured (pages : StoreState) : Type 0 where
   pub stands : store_in (site_world config texts) ≡ Ok store
   pub moved : all_made None store (edits_of_moves moves) ≡ Some (unstamped pages)
 
--- What somebody who has given so many configurations has answered: where none was given yet, none; and of each the pages are a configuration's.
+-- What somebody who has given so many configurations has answered: where none was given yet, none, and of each the pages are a
+-- configuration's; and never records.
 abbrev pub HasAnswered : ℕ → Option Given → Type 0
 HasAnswered count None = ⊤
-HasAnswered count (Some given) = (1 ≤ count) × IsConfigured given.pages
+HasAnswered count (Some (givens.Configuration given)) = (1 ≤ count) × IsConfigured given.pages
+HasAnswered count (Some (givens.Records texts)) = ⊥

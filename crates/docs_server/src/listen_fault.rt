@@ -12,6 +12,7 @@ use doc_server_restore::compact_fault::CompactFault;
 use doc_server_restore::fault::RestoreFault;
 use doc_server_serving::fault::ServeFault;
 use doc_server_serving::hosting::fault::HostingFault;
+use doc_server_serving::net::follow_fault::FollowFault;
 use doc_server_streams::fault::Fault;
 use std::alloc::AllocError;
 use thiserror::Error;
@@ -49,6 +50,9 @@ pub enum ListenFault {
     /// The journal's edits can't be made.
     #[error("{0}")]
     Restore(RestoreFault),
+    /// The journal of another server isn't followed any more.
+    #[error("{0}")]
+    Follow(FollowFault),
     /// The new journal isn't written.
     #[error("{0}")]
     Compact(CompactFault),
@@ -103,17 +107,17 @@ impl From<RestoreFault> for ListenFault {
 
 impl From<ServeFault> for ListenFault {
     ghost use Rattle.std.specs.Prelude.{◌≡◌};
-    ghost use Rattle.docs_server.specs.declared.listen_fault.ListenFault.TheVariants as faults;
-    ghost use Rattle.docs_server.specs.Listening.{serve_fault_of};
+    ghost use Rattle.docs_server.specs.Stops.{stop_of};
 
-    ghost from_gives = { λ fault stop. stop ≡ faults.Command (serve_fault_of fault) };
+    ghost from_gives = { λ fault stop. stop ≡ stop_of fault };
 
     fn from(fault: ServeFault) -> ListenFault {
-        ListenFault::Command(match fault {
-            ServeFault::Socket => Fault::Socket,
-            ServeFault::CannotWrite => Fault::CannotWrite,
-            ServeFault::Memory => Fault::Memory,
-        })
+        match fault {
+            ServeFault::Socket => ListenFault::Command(Fault::Socket),
+            ServeFault::CannotWrite => ListenFault::Command(Fault::CannotWrite),
+            ServeFault::Memory => ListenFault::Command(Fault::Memory),
+            ServeFault::Follow(fault) => ListenFault::Follow(fault),
+        }
     }
 }
 

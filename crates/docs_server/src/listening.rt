@@ -4,11 +4,15 @@ ghost use Rattle.std.specs.Prelude.{◌≡◌, ◌<◌, ◌≤◌, Ok, IfOk, opt
 ghost use Rattle.std.specs.FinMap as map;
 ghost use Rattle.doc_server_serving.specs.Hostings.{IsHosted};
 ghost use Rattle.doc_server_serving.specs.Wirings.{AreWoken};
+ghost use Rattle.docs_server.specs.Followed.{IsFollowed};
+ghost use Rattle.docs_server.specs.Listening.{IsReady};
 
 use crate::access_log::AccessLog;
 use crate::bounded::{Bounded, read_bounded};
 use crate::ended::ended_status;
 use crate::files::{Pages, Site};
+use crate::followed_journal::{FollowedJournal, take_journal};
+use crate::following::Following;
 use crate::held::hold;
 use crate::listen_fault::ListenFault;
 use crate::monitors::Monitors;
@@ -25,7 +29,8 @@ use doc_media::media::Media;
 use doc_page::renderer::Renderer;
 use doc_page_parts::heap::Heap;
 use doc_page_parts::list::List;
-use doc_server::site::site_hub_beside;
+use doc_page_parts::text::Text;
+use doc_server::site::site_hub_taking;
 use doc_server_arguments::command::Listen;
 use doc_server_arguments::log_form::LogForm;
 use doc_server_config::bounds::Bounds;
@@ -33,6 +38,7 @@ use doc_server_config::config::SiteConfig;
 use doc_server_config::readme::Move;
 use doc_server_log_names::lines::{Askers, Lines};
 use doc_server_log_names::names::Names;
+use doc_server_restore::restore::restore;
 use doc_server_serving::hosting::ended::Ended;
 use doc_server_serving::hosting::fault::HostingFault;
 use doc_server_serving::hosting::host::Host;
@@ -77,47 +83,55 @@ pub fn run_listen<
     requires parts { blank.parts ≡ L.parts }
     requires some { 0 < L.parts }
 {
-    match read_bounded(rt, command.config) {
-        Ok((document, bounded)) => {
-            let Bounded {
-                site,
-                bounds,
-                media,
-                media_paths,
-                moves,
-                passed,
-                names,
-            } = bounded;
-            tell_passed(rt, passed.get());
-            let shared = Shared::new();
-            let Site { pages, entities } = site;
-            let login = takes_logins(&pages.config);
-            let form = lines_of(command.log, Askers { names, login });
-            let media_count = media_paths.get().len();
-            let mut source = Reloading::new(rt, command.config, document, media_count, &shared);
-            let renderer: CommonMark<L> = CommonMark::with_front(
-                entities,
-                blank,
-                pages.config.markdown.front,
-            );
-            let ready = Ready {
-                pages,
-                media,
-                moves,
-            };
-            let told = Told {
-                log: log_of(rt, form, &shared.names),
-                standing: &shared.standing,
-            };
-            let status = listen_with(rt, renderer, ready, bounds, command, told, &mut source);
-            status_of(rt, status)
-        }
-        Err(fault) => status_of(rt, Err(fault)),
+    status_of(rt, listen_configured::<L, P>(rt, blank, command))
+}
+
+/// The same as a result.
+fn listen_configured<
+    L: Ledger,
+    P: AllocGlobal + Clock + Clone + Drop + Eprint + Files<File = File> + Input + Net + Print,
+>(rt: &P, blank: Blank, command: &Listen<'_>) -> Result<u8, ListenFault>
+    requires name { blank.name ≡ L.name }
+    requires parts { blank.parts ≡ L.parts }
+    requires some { 0 < L.parts }
+{
+    let (document, bounded) = read_bounded(rt, command.config)?;
+    let Bounded {
+        site,
+        bounds,
+        media,
+        media_paths,
+        moves,
+        passed,
+        names,
+    } = bounded;
+    tell_passed(rt, passed.get());
+    let shared = Shared::new();
+    let Site { pages, entities } = site;
+    let login = takes_logins(&pages.config);
+    let form = lines_of(command.log, Askers { names, login });
+    let media_count = media_paths.get().len();
+    let mut source = Reloading::new(rt, command.config, document, media_count, &shared)?;
+    let front = pages.config.markdown.front;
+    let renderer: CommonMark<L> = CommonMark::with_front(entities, blank, front);
+    let ready = Ready {
+        pages,
+        media,
+        moves,
+    };
+    let told = Told {
+        log: log_of(rt, form, &shared.names),
+        standing: &shared.standing,
+    };
+    match command.follow {
+        None => listen_with(rt, renderer, ready, bounds, command, told, &mut source),
+        Some(name) => follow_with(
+            rt, renderer, ready, bounds, command, told, name, source, &shared,
+        ),
     }
 }
 
-/// The same with any renderer, as a result. All pages stand, and the journal's edits are made, before the address is bound; peers are
-/// accepted behind the line that tells it.
+/// The same with any renderer, as a result: with a journal of its own, or with none.
 fn listen_with<
     'a,
     R: Renderer + Drop,
@@ -132,15 +146,91 @@ fn listen_with<
     told: Told<'a, P>,
     source: &mut S,
 ) -> Result<u8, ListenFault> {
+    let hub = hub_of(rt.alloc(), renderer, ready, true)?;
+    serve_hub(rt, hub, &bounds, command, told, source)
+}
+
+/// The same where another server's journal is followed, the file of this name.
+fn follow_with<
+    'a,
+    R: Renderer + Drop,
+    P: AllocGlobal + Clock + Clone + Drop + Eprint + Files<File = File> + Input + Net + Print,
+>(
+    rt: &'a P,
+    renderer: R,
+    ready: Ready,
+    bounds: Bounds,
+    command: &Listen<'_>,
+    told: Told<'a, P>,
+    name: &str,
+    config: Reloading<'a, P>,
+    shared: &'a Shared,
+) -> Result<u8, ListenFault> {
     let heap = rt.alloc();
+    let mut hub = hub_of(heap, renderer, ready, false)?;
+    let journal = followed_by(rt, heap, &mut hub, name)?;
+    let name = Text::copy_of(heap, name)?;
+    let mut source = Following::new(rt, name, config, journal, shared);
+    match serve_hub(rt, hub, &bounds, command, told, &mut source) {
+        Err(ListenFault::Follow(fault)) => Err(source.ended(fault)),
+        status => status,
+    }
+}
+
+/// A hub with all pages, which takes edits or doesn't.
+fn hub_of<R: Renderer + Drop>(
+    heap: Heap,
+    renderer: R,
+    ready: Ready,
+    takes_edits: bool,
+) -> Result<Hub<R>, ListenFault>
+    ensures ready { IfOk result (λ hub. IsReady takes_edits ready.pages.config ready.pages.texts
+        ready.media ready.moves hub.1) }
+    ensures same { IfOk result (λ hub. R.page hub.0 ≡ R.page renderer) }
+{
     let Ready {
         pages,
         media,
         moves,
     } = ready;
     let Pages { config, texts } = pages;
-    let mut hub = site_hub_beside(heap, renderer, config, texts.get(), media)?;
+    let mut hub = site_hub_taking(heap, renderer, config, texts.get(), media, takes_edits)?;
     make_moves(&mut hub, moves.get())?;
+    Ok(hub)
+}
+
+/// The journal of this name, whose edits are made on a hub as far as it stands.
+fn followed_by<R: Renderer + Drop, P: Files<File = File>>(
+    rt: &P,
+    heap: Heap,
+    hub: &mut Hub<R>,
+    name: &str,
+) -> Result<FollowedJournal, ListenFault>
+    ensures followed { IfOk result
+        (λ journal. IsFollowed journal.followed hub.old.1 hub.new.1) }
+    ensures same { R.page hub.new.0 ≡ R.page hub.old.0 }
+{
+    let (journal, texts) = take_journal(rt, heap, name)?;
+    restore(heap, hub, texts.get())?;
+    Ok(journal)
+}
+
+/// Serves a hub that has all pages. The edits of a journal of its own are made before the address is bound; peers are accepted behind the
+/// line that tells it.
+fn serve_hub<
+    'a,
+    R: Renderer + Drop,
+    P: AllocGlobal + Clock + Eprint + Files<File = File> + Net + Print,
+    S: Source,
+>(
+    rt: &'a P,
+    hub: Hub<R>,
+    bounds: &Bounds,
+    command: &Listen<'_>,
+    told: Told<'a, P>,
+    source: &mut S,
+) -> Result<u8, ListenFault> {
+    let heap = rt.alloc();
     let _held = hold(rt, heap, command.config)?;
     let host = System {
         rt,
@@ -151,16 +241,7 @@ fn listen_with<
     };
     let monitors = monitors_of(rt, command.status, told.standing)?;
     let watch = Watching::of(rt, told.log, monitors);
-    let ended = listen_on(
-        rt,
-        heap,
-        &host,
-        hub,
-        &bounds,
-        command.journal,
-        watch,
-        source,
-    )?;
+    let ended = listen_on(rt, heap, &host, hub, bounds, command.journal, watch, source)?;
     ended_status(&ended)
 }
 

@@ -64,7 +64,7 @@ impl<P: Eprint + Files<File = File>> NamedFile for NamedDevice<'_, P> {
 }
 
 /// Where a file stands, as numbers that no other file has while it is open.
-fn place_of(found: &Metadata) -> (u64, u64) {
+pub fn place_of(found: &Metadata) -> (u64, u64) {
     (found.dev(), found.ino())
 }
 

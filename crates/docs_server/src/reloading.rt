@@ -20,12 +20,14 @@ use doc_page_parts::text::Text;
 use doc_server_config::document::Document;
 use doc_server_journal::clock::seconds_of;
 use doc_server_log_names::names::Names;
-use doc_server_serving::given::Given;
+use doc_server_serving::given::{Configuration, Given};
+use doc_server_serving::net::follow_fault::FollowFault;
 use doc_server_serving::net::reload_fault::Refusal;
 use doc_server_serving::net::reloaded::Reloaded;
 use doc_server_serving::source::Source;
 use doc_server_streams::input::Input as _;
 use doc_server_streams::read_from::ReadFrom;
+use std::fmt::Display;
 use std::rt::{Clock, Files};
 use toml::{Table, Value};
 
@@ -34,6 +36,9 @@ const MOST_BYTES: usize = 4_096;
 
 /// The line that asks for a reload.
 const RELOAD: &str = "reload";
+
+/// What stands in front of why a reload is refused.
+pub const REFUSED: &str = "reload refused";
 
 /// The key of the readers in a configuration.
 const READERS: &str = "reader";
@@ -52,7 +57,7 @@ pub struct Reloading<'a, P> {
     rt: &'a P,
     heap: Heap,
     /// The name of its file.
-    name: &'a str,
+    name: Text,
     /// What it is as it is served.
     document: Document,
     /// How many media are served.
@@ -76,27 +81,28 @@ impl<'a, P: AllocGlobal + Clock + Clone + Drop + Eprint + Files + Input> Reloadi
     /// A configuration that is served, the file of this name, beside so many media.
     pub fn new(
         rt: &'a P,
-        name: &'a str,
+        name: &str,
         document: Document,
         media_count: usize,
         shared: &'a Shared,
-    ) -> Reloading<'a, P>
-        ensures { result.count ≡ 0 }
+    ) -> Result<Reloading<'a, P>, Memory>
+        ensures { IfOk result (λ config. config.count ≡ 0) }
     {
-        Reloading {
+        let heap = rt.alloc();
+        Ok(Reloading {
             rt,
-            heap: rt.alloc(),
-            name,
+            heap,
+            name: Text::copy_of(heap, name)?,
             document,
             media_count,
             given: None,
             count: 0,
             shared,
-        }
+        })
     }
 
     /// Whether what has come on standard input asks for a reload. Each other line is told.
-    fn is_asked(&self) -> bool {
+    pub fn is_asked(&self) -> bool {
         let mut buf = [0; MOST_BYTES];
         let count = match ReadFrom::new(self.rt.reader()).read(&mut buf) {
             Ok(count) => count,
@@ -113,17 +119,24 @@ impl<'a, P: AllocGlobal + Clock + Clone + Drop + Eprint + Files + Input> Reloadi
         asks
     }
 
-    /// What the file and those that it names give as they are now. Where it is refused all stays as it was.
-    fn reload(&mut self, served: &Option<Media>) -> Result<Given, ReloadFault>
+    /// What the file and those that it names give as they are now. Where it is refused all stays as it was, and its faults are told behind
+    /// a word, where there is one.
+    pub fn reload(
+        &mut self,
+        served: &Option<Media>,
+        word: Option<&str>,
+    ) -> Result<Configuration, ReloadFault>
         ensures given { IfOk result (λ given. IsConfigured given.pages) }
         ensures count { self.new.count ≡ self.old.count }
         ensures refused { OnErr result (self.new.document ≡ self.old.document) }
     {
-        let text = read_file(self.rt, self.heap, self.name).map_err(ListenFault::from)?;
+        let text = read_file(self.rt, self.heap, self.name.get()).map_err(ListenFault::from)?;
         match written_of(self.heap, &text) {
             Ok((document, written)) => self.read_all(served, document, written),
             Err(fault) => {
-                tell_refusal(self.rt, self.heap, self.name, &text);
+                if let Some(word) = word {
+                    tell_refusal(self.rt, self.heap, word, self.name.get(), &text);
+                }
                 Err(ReloadFault::Config(fault))
             }
         }
@@ -135,7 +148,7 @@ impl<'a, P: AllocGlobal + Clock + Clone + Drop + Eprint + Files + Input> Reloadi
         served: &Option<Media>,
         document: Document,
         written: Written,
-    ) -> Result<Given, ReloadFault>
+    ) -> Result<Configuration, ReloadFault>
         ensures given { IfOk result (λ given. IsConfigured given.pages) }
         ensures count { self.new.count ≡ self.old.count }
         ensures refused { OnErr result (self.new.document ≡ self.old.document) }
@@ -154,7 +167,7 @@ impl<'a, P: AllocGlobal + Clock + Clone + Drop + Eprint + Files + Input> Reloadi
         served: &Option<Media>,
         document: Document,
         bounded: Bounded,
-    ) -> Result<Given, ReloadFault>
+    ) -> Result<Configuration, ReloadFault>
         ensures given { IfOk result (λ given. IsConfigured given.pages) }
         ensures count { self.new.count ≡ self.old.count }
         ensures refused { OnErr result (self.new.document ≡ self.old.document) }
@@ -177,14 +190,14 @@ impl<'a, P: AllocGlobal + Clock + Clone + Drop + Eprint + Files + Input> Reloadi
         let store = configured_store(self.heap, &pages, moves.get()).map_err(ListenFault::from)?;
         let Pages { config, texts: _ } = pages;
         self.given = Some(Pending { document, names });
-        Ok(Given {
+        Ok(Configuration {
             readers: config.readers,
             pages: store,
         })
     }
 
     /// Tells what came of a reload: it is served from here on.
-    fn tell_served(&mut self, reloaded: Reloaded)
+    pub fn tell_served(&mut self, reloaded: Reloaded)
         ensures count { self.new.count ≡ self.old.count }
         ensures given { self.new.given ≡ None }
     {
@@ -192,21 +205,49 @@ impl<'a, P: AllocGlobal + Clock + Clone + Drop + Eprint + Files + Input> Reloadi
         let Reloaded {
             put,
             removed,
-            records,
+            records: _,
         } = reloaded;
         if !has_other_readers && put == 0 && removed == 0 {
             let _ = eprintln!(self.rt; "reload: nothing has changed");
             return;
         }
         self.shared.tell_reload(seconds_of(self.rt));
+        self.tell_made("reload", reloaded);
+    }
+
+    /// Tells what stands by a reload, or by what this word says.
+    pub fn tell_made(&self, what: &str, reloaded: Reloaded) {
+        let Reloaded {
+            put,
+            removed,
+            records,
+        } = reloaded;
         let readers = reader_count(&self.document.table);
         let _ = eprintln!(self.rt;
-            "reload: {readers} readers, {put} pages put, {removed} removed (record {records})"
+            "{what}: {readers} readers, {put} pages put, {removed} removed (record {records})"
         );
     }
 
+    /// A reload is refused: what was given isn't served.
+    pub fn refuse<F: Display>(&mut self, fault: &F)
+        ensures count { self.new.count ≡ self.old.count }
+        ensures given { self.new.given ≡ None }
+    {
+        self.given = None;
+        self.shared.tell_refusal();
+        let _ = eprintln!(self.rt; "{REFUSED}: {fault}");
+    }
+
+    /// What was given isn't served.
+    pub fn forget(&mut self)
+        ensures count { self.new.count ≡ self.old.count }
+        ensures given { self.new.given ≡ None }
+    {
+        self.given = None;
+    }
+
     /// What was given is served from here on, and the log finds its readers' names. Answers whether the readers are others.
-    fn serve_given(&mut self) -> bool
+    pub fn serve_given(&mut self) -> bool
         ensures count { self.new.count ≡ self.old.count }
         ensures given { self.new.given ≡ None }
     {
@@ -221,26 +262,36 @@ impl<'a, P: AllocGlobal + Clock + Clone + Drop + Eprint + Files + Input> Reloadi
 }
 
 impl<P: AllocGlobal + Clock + Clone + Drop + Eprint + Files + Input> Source for Reloading<'_, P> {
-    ghost use Rattle.std.specs.Prelude.{◌≡◌, ⊤, None};
+    ghost use Rattle.std.specs.Prelude.{◌≡◌, ⊤, None, false};
     ghost use Rattle.docs_server.specs.Reloading.{HasAnswered};
+
+    ghost follows = { λ _. false };
 
     ghost answered = { λ r answer. HasAnswered r.count answer };
 
     ghost told = { λ r _. r.given ≡ None };
 
-    fn hear(&mut self, media: &Option<Media>) -> Option<Given> {
-        if !self.is_asked() {
-            return None;
+    fn follows(&self) -> bool {
+        false
+    }
+
+    fn hear(
+        &mut self,
+        media: &Option<Media>,
+        has_input: bool,
+    ) -> Result<Option<Given>, FollowFault> {
+        let is_asked = has_input && self.is_asked();
+        if !is_asked {
+            return Ok(None);
         }
-        match self.reload(media) {
-            Ok(given) => {
+        match self.reload(media, Some(REFUSED)) {
+            Ok(configuration) => {
                 self.count = self.count.saturating_add(1);
-                Some(given)
+                Ok(Some(Given::Configuration(configuration)))
             }
             Err(fault) => {
-                self.shared.tell_refusal();
-                let _ = eprintln!(self.rt; "reload refused: {fault}");
-                None
+                self.refuse(&fault);
+                Ok(None)
             }
         }
     }
@@ -248,11 +299,7 @@ impl<P: AllocGlobal + Clock + Clone + Drop + Eprint + Files + Input> Source for 
     fn tell(&mut self, outcome: Result<Reloaded, Refusal>) {
         match outcome {
             Ok(reloaded) => self.tell_served(reloaded),
-            Err(refusal) => {
-                self.given = None;
-                self.shared.tell_refusal();
-                let _ = eprintln!(self.rt; "reload refused: {refusal}");
-            }
+            Err(refusal) => self.refuse(&refusal),
         }
     }
 

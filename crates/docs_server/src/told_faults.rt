@@ -16,11 +16,11 @@ pub fn tell_faults<P: Eprint>(rt: &P, heap: Heap, name: &str, text: &str) {
     }
 }
 
-/// Prints them as what a reload is refused for.
-pub fn tell_refusal<P: Eprint>(rt: &P, heap: Heap, name: &str, text: &str) {
+/// Prints them behind a word, as what a reload is refused for.
+pub fn tell_refusal<P: Eprint>(rt: &P, heap: Heap, word: &str, name: &str, text: &str) {
     if let Ok(lines) = faults_told(heap, name, text) {
         for line in lines.as_str().lines() {
-            let _ = eprintln!(rt; "reload refused: {line}");
+            let _ = eprintln!(rt; "{word}: {line}");
         }
     }
 }

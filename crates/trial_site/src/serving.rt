@@ -5,7 +5,7 @@
 //!
 //! - `holds BYTES`: from now on the file holds these bytes.
 //! - `serve WAITS CONNECTIONS IDLE CALLS MOST | GUEST | GUEST ..` and `host WAITS CONNECTIONS | GUEST ..`: a server with its guests
-//!   (`hosted`). `turns CALLS MOST | BYTES | BYTES ..`: turns without a network (`turning`).
+//!   (`hosted`). `follow WAITS CONNECTIONS | GUEST ..`: one that follows the file (`following`). `turns CALLS MOST | BYTES | BYTES ..`: turns without a network (`turning`).
 //! - `compact CALLS DEVICE_CALLS MOST | LINES` and `pages | LINES`: what a compaction makes of the file, and the site of its edits
 //!   (`compacting`).
 //! - `file`, `records`, `flips` and `cuts` are of the file (`journals`).
@@ -13,6 +13,7 @@
 ghost use Rattle.std.specs.Prelude.{◌≡◌, ◌<◌};
 
 mod compacting;
+mod following;
 mod guests;
 mod held;
 mod hosted;
@@ -23,6 +24,7 @@ mod turning;
 use crate::listen::journals::journal_called;
 use crate::listen::scene::new_hub;
 use crate::serving::compacting::{compacted, pages_told};
+use crate::serving::following::followed;
 use crate::serving::held::held;
 use crate::serving::hosted::{hosted, served};
 use crate::serving::turning::turned;
@@ -77,7 +79,7 @@ fn called<P: Clock>(
 ) -> Result<String, Memory> {
     match name {
         "holds" => held(heap, given, file),
-        "serve" | "host" | "turns" => begin(rt, heap, &[name, given], file),
+        "serve" | "host" | "follow" | "turns" => begin(rt, heap, &[name, given], file),
         "compact" => compacted(heap, given, file),
         "pages" => pages_told(heap, given, file.as_slice()),
         _ => journal_called(heap, file.as_slice(), name),
@@ -107,7 +109,8 @@ fn begin_plain<L: Ledger, P: Clock>(
     requires some { 0 < L.parts }
 {
     let renderer: PlainRenderer<L> = PlainRenderer::new(blank);
-    match new_hub(heap, renderer) {
+    let takes_edits = texts[0] != "follow";
+    match new_hub(heap, renderer, takes_edits) {
         Some(hub) => called_on(rt, heap, hub, texts, file),
         None => Err(Memory),
     }
@@ -125,6 +128,7 @@ fn called_on<R: Renderer + Drop, P: Clock>(
     match name {
         "serve" => served(rt, heap, hub, given, file),
         "host" => hosted(rt, heap, hub, given),
+        "follow" => followed(rt, heap, hub, given, file.as_slice()),
         _ => turned(heap, hub, given, file),
     }
 }

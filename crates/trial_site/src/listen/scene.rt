@@ -6,6 +6,7 @@ use crate::listen::served::{Bounds, Served};
 use doc_hub::hub::Hub;
 use doc_page::renderer::Renderer;
 use doc_page_parts::heap::{Heap, Vec};
+use doc_people::settings::Settings;
 use doc_store::readers::Readers;
 use std::net::Net;
 use std::rt::Clock;
@@ -59,7 +60,7 @@ pub fn new_scene<R: Renderer + Drop, P: Clock + Net>(
 ) -> Option<Scene<R>> {
     let (line, file) = begun_with(line, file);
     let bounds = bounds_of(line)?;
-    let hub = new_hub(heap, renderer)?;
+    let hub = new_hub(heap, renderer, true)?;
     let served = Served::new(rt, heap, hub, bounds, file)?;
     Some(Scene {
         heap,
@@ -91,11 +92,16 @@ pub fn bounds_of(line: &str) -> Option<Bounds> {
     })
 }
 
-pub fn new_hub<R: Renderer + Drop>(heap: Heap, renderer: R) -> Option<Hub<R>> {
+pub fn new_hub<R: Renderer + Drop>(heap: Heap, renderer: R, takes_edits: bool) -> Option<Hub<R>> {
     let Ok(readers) = Readers::from_toml(heap, READERS) else {
         return None;
     };
-    Hub::new(heap, renderer, readers, true, CACHE).ok()
+    let settings = Settings {
+        keep_alive: true,
+        takes_edits,
+        browse: None,
+    };
+    Hub::with_settings(heap, renderer, readers, settings, CACHE).ok()
 }
 
 impl<R: Renderer + Drop> Scene<R> {

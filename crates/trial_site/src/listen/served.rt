@@ -113,7 +113,7 @@ impl<R: Renderer + Drop> Served<R> {
         }
         match self
             .server
-            .turn(rt, &mut self.net, &mut self.saved, &mut self.next)
+            .turn(rt, &mut self.net, &mut self.saved, &mut self.next, false)
         {
             Ok(_) => true,
             Err(fault) => {

@@ -35,13 +35,14 @@ use doc_server_serving::net::network::Network;
 use doc_server_serving::net::saved_hub::SavedHub;
 use doc_server_serving::net::watched::Watched;
 use doc_server_serving::server::Server;
+use doc_server_serving::source::Source;
 use std::rt::Clock;
 use std::time::Instant;
 use trial::answer::{no_call, number_and_text};
 
 /// What a server is asked to do.
 #[derive(Clone, Copy)]
-struct Asked<'a> {
+pub struct Asked<'a> {
     waits: u64,
     connections: usize,
     idle_seconds: u64,
@@ -62,7 +63,7 @@ pub fn served<R: Renderer + Drop, P: Clock>(
     let Some(mut saved) = saved_over(heap, hub, bounds, file.as_slice()) else {
         return Ok(String::from_str(heap, "refused: no journal")?);
     };
-    let answer = serve_guests(rt, heap, asked, &mut saved);
+    let answer = serve_guests(rt, heap, asked, &mut saved, &mut NothingGiven);
     let kept = keep_file(heap, &saved, file);
     drop(saved);
     match kept {
@@ -85,7 +86,7 @@ pub fn hosted<R: Renderer + Drop, P: Clock>(
         return no_call(heap);
     };
     let mut saved: SavedHub<MemoryDevice, R> = SavedHub::new(hub);
-    let answer = serve_guests(rt, heap, asked, &mut saved);
+    let answer = serve_guests(rt, heap, asked, &mut saved, &mut NothingGiven);
     drop(saved);
     answer
 }
@@ -103,7 +104,8 @@ fn asked_with_bounds(given: &str) -> Option<(Asked<'_>, Bounds)> {
     Some((asked, bounds))
 }
 
-fn asked_without_bounds(given: &str) -> Option<Asked<'_>> {
+/// What is asked of a server without a journal.
+pub fn asked_without_bounds(given: &str) -> Option<Asked<'_>> {
     let (line, guests) = given.split_once(" | ")?;
     let (waits, connections) = number_and_text(line)?;
     Some(Asked {
@@ -127,11 +129,12 @@ pub fn keep_file<R: Renderer + Drop>(
 }
 
 /// Serves the guests, and tells what came of that.
-fn serve_guests<R: Renderer + Drop, P: Clock>(
+pub fn serve_guests<R: Renderer + Drop, P: Clock, S: Source>(
     rt: &P,
     heap: Heap,
     asked: Asked<'_>,
     saved: &mut SavedHub<MemoryDevice, R>,
+    source: &mut S,
 ) -> Result<String, Memory>
     requires all { IsAllSaved saved.old }
     requires ready { IsReady memory_seen memory_leaves has_failed memory_stale saved.old }
@@ -140,7 +143,7 @@ fn serve_guests<R: Renderer + Drop, P: Clock>(
         return no_call(heap);
     };
     let mut notes = Notes::new(heap);
-    let Played { ended, net } = play(rt, heap, asked, saved, net, &mut notes);
+    let Played { ended, net } = play(rt, heap, asked, saved, net, &mut notes, source);
     let told = told(heap, asked.guests, ended, &net, &notes);
     drop(net);
     drop(notes);
@@ -155,20 +158,21 @@ struct Played {
 }
 
 /// Serves over a network that is watched.
-fn play<R: Renderer + Drop, P: Clock>(
+fn play<R: Renderer + Drop, P: Clock, S: Source>(
     rt: &P,
     heap: Heap,
     asked: Asked<'_>,
     saved: &mut SavedHub<MemoryDevice, R>,
     net: MemoryNetwork,
     notes: &mut Notes,
+    source: &mut S,
 ) -> Played
     requires all { IsAllSaved saved.old }
     requires ready { IsReady memory_seen memory_leaves has_failed memory_stale saved.old }
     requires new { (k : ℕ) → IsUntouched net k }
 {
     let mut watched = Watched::new(heap, net, Watcher { notes });
-    let ended = serve(rt, heap, asked, saved, &mut watched);
+    let ended = serve(rt, heap, asked, saved, &mut watched, source);
     Played {
         ended,
         net: watched.into_parts().0,
@@ -176,12 +180,13 @@ fn play<R: Renderer + Drop, P: Clock>(
 }
 
 /// Serves over any network.
-fn serve<N: Network, D: Device + NamedFile, R: Renderer + Drop, P: Clock>(
+fn serve<N: Network, D: Device + NamedFile, R: Renderer + Drop, P: Clock, S: Source>(
     rt: &P,
     heap: Heap,
     asked: Asked<'_>,
     saved: &mut SavedHub<D, R>,
     net: &mut N,
+    source: &mut S,
 ) -> Result<(), ServeFault>
     requires all { IsAllSaved saved.old }
     requires ready { IsReady D.seen D.may_leave D.failed D.stale saved.old }
@@ -192,7 +197,7 @@ fn serve<N: Network, D: Device + NamedFile, R: Renderer + Drop, P: Clock>(
         return Err(ServeFault::Socket);
     };
     let mut server = Server::new(now, heap, asked.connections, idle(asked.idle_seconds))?;
-    let ended = server.serve(rt, net, saved, &mut NothingGiven);
+    let ended = server.serve(rt, net, saved, source);
     drop(server);
     ended
 }

@@ -1,11 +1,15 @@
-use Rattle.std.proofs.Common.{inl, refl}
-use Rattle.std.specs.Prelude.{None, Some}
+use Rattle.std.proofs.Common.{inl, refl, subst, sym}
+use Rattle.std.specs.Prelude.{Option, Some}
+use Rattle.doc_server_journal.specs.declared.journal.Journal.{Journal}
+use Rattle.doc_server_network.specs.Crashes.{CrashesLeave, Restores}
 use Rattle.doc_server_serving.specs.Leading.{IsOfGiven, IsOfServer}
+use Rattle.doc_server_serving.specs.declared.given.Given.{Given}
+use Rattle.doc_server_serving.specs.declared.given.Given.TheVariants as givens
 use Rattle.doc_server_serving.proofs.Accepting.{quiet_nowhere}
 use Rattle.doc_server_serving.proofs.Crashing.{leaves_itself}
-use Rattle.doc_server_serving.proofs.Forces.{in_force_behind}
+use Rattle.doc_server_serving.proofs.Forces.{in_force_behind, settled_alone, was_given}
 use Rattle.doc_server_serving.proofs.Leading.{of_given}
-use Rattle.doc_server_serving.proofs.Reloading.{quiet_wider}
+use Rattle.doc_server_serving.proofs.Reloading.{quiet_follow, quiet_wider}
 use Rattle.doc_server_serving.proofs.server.take_given.Goals as goal
 
 pub reload-requires-clause-all : goal.reload-requires-clause-all
@@ -14,49 +18,82 @@ reload-requires-clause-all g c = c.requires.all
 pub reload-requires-clause-ready : goal.reload-requires-clause-ready
 reload-requires-clause-ready g c = c.requires.ready
 
-pub returns-in_default-clause-quiet : goal.returns-in_default-clause-quiet
-returns-in_default-clause-quiet g c =
+pub returns-in_err-given-clause-quiet : goal.returns-in_err-given-clause-quiet
+returns-in_err-given-clause-quiet g c =
     quiet_nowhere (IsOfServer (g.S.Source.answered c.hear.new.self)) (g.R.Renderer.page c.args.saved.now.hub.0) c.args.saved.now.hub.1
 
-pub returns-in_default-clause-takes : goal.returns-in_default-clause-takes
-returns-in_default-clause-takes g c = (None, c.in_default.ensures.answers, refl)
+pub returns-in_err-outcome-in-Some-Configuration-clause-quiet : goal.returns-in_err-outcome-in-Some-Configuration-clause-quiet
+returns-in_err-outcome-in-Some-Configuration-clause-quiet g c =
+    quiet_wider (IsOfGiven (givens.Configuration c.in-Some-Configuration.configuration)) (IsOfServer (g.S.Source.answered c.hear.new.self))
+    (g.R.Renderer.page c.args.saved.now.hub.0) c.args.saved.now.hub.1 c.reload.new.saved.hub.1
+    (of_given (g.S.Source.answered c.hear.new.self) (givens.Configuration c.in-Some-Configuration.configuration)
+    (was_given (g.S.Source.answered c.hear.new.self) c.in_ok-given.given c.in-Some-Configuration.field-0
+    (givens.Configuration c.in-Some-Configuration.configuration) c.in-Some-Configuration.is c.in-Some-Configuration.field-0-is
+    c.in_ok-given.ensures.answers))
+    c.reload.ensures.quiet
 
-pub returns-in_default-clause-settled : goal.returns-in_default-clause-settled
-returns-in_default-clause-settled g c = λ config is given. record { config = config; in_force = inl refl; settled = is }
+pub returns-in_err-follow-in-Some-Records-clause-quiet : goal.returns-in_err-follow-in-Some-Records-clause-quiet
+returns-in_err-follow-in-Some-Records-clause-quiet g c =
+    quiet_wider (IsOfGiven (givens.Records c.in-Some-Records.texts)) (IsOfServer (g.S.Source.answered c.hear.new.self))
+    (g.R.Renderer.page c.args.saved.now.hub.0) c.args.saved.now.hub.1 c.follow.new.self.hub.1
+    (of_given (g.S.Source.answered c.hear.new.self) (givens.Records c.in-Some-Records.texts)
+    (was_given (g.S.Source.answered c.hear.new.self) c.in_ok-given.given c.in-Some-Records.field-0
+    (givens.Records c.in-Some-Records.texts) c.in-Some-Records.is c.in-Some-Records.field-0-is c.in_ok-given.ensures.answers))
+    (quiet_follow c.in-Some-Records.texts (g.R.Renderer.page c.args.saved.now.hub.0) c.args.saved.now.hub.1 c.follow.new.self.hub.1
+    c.follow.ensures.edits)
 
-pub returns-in_default-clause-any_moment : goal.returns-in_default-clause-any_moment
-returns-in_default-clause-any_moment g c =
-    λ config begin is.
-    leaves_itself g.D.Device.seen g.D.Device.moment g.D.Device.left_since g.D.Device.may_leave g.D.Device.failed g.D.Device.stale g.met.D.Device.only_now
-    config begin c.args.saved.now.journal c.args.saved.now.unsaved c.args.saved.now.hub.1 is
+pub returns-in_err-follow-in-Some-Records-clause-any_moment : goal.returns-in_err-follow-in-Some-Records-clause-any_moment
+returns-in_err-follow-in-Some-Records-clause-any_moment g c = λ config begin is.
+    subst (λ (j : Option (Journal g.row.D.Denot)). CrashesLeave g.D.Device.seen g.D.Device.moment g.D.Device.left_since
+    (Restores config begin)
+    c.args.saved.now.journal j) (sym c.follow.ensures.journal)
+    (leaves_itself g.D.Device.seen g.D.Device.moment g.D.Device.left_since g.D.Device.may_leave g.D.Device.failed g.D.Device.stale
+    g.met.D.Device.only_now config begin c.args.saved.now.journal c.args.saved.now.unsaved c.args.saved.now.hub.1 is)
 
-pub returns-in_err-outcome-clause-quiet : goal.returns-in_err-outcome-clause-quiet
-returns-in_err-outcome-clause-quiet g c =
-    quiet_wider (IsOfGiven c.in-Some.given) (IsOfServer (g.S.Source.answered c.hear.new.self)) (g.R.Renderer.page c.args.saved.now.hub.0)
-    c.args.saved.now.hub.1 c.reload.new.saved.hub.1
-    (of_given (g.S.Source.answered c.hear.new.self) c.in-Some.given c.in-Some.ensures.answers) c.reload.ensures.quiet
+pub returns-in_ok-outcome-in-Some-Configuration-clause-quiet : goal.returns-in_ok-outcome-in-Some-Configuration-clause-quiet
+returns-in_ok-outcome-in-Some-Configuration-clause-quiet g c =
+    quiet_wider (IsOfGiven (givens.Configuration c.in-Some-Configuration.configuration)) (IsOfServer (g.S.Source.answered c.tell.new.self))
+    (g.R.Renderer.page c.args.saved.now.hub.0) c.args.saved.now.hub.1 c.reload.new.saved.hub.1
+    (of_given (g.S.Source.answered c.tell.new.self) (givens.Configuration c.in-Some-Configuration.configuration)
+    (c.tell.ensures.keeps (Some (givens.Configuration c.in-Some-Configuration.configuration))
+    (was_given (g.S.Source.answered c.hear.new.self) c.in_ok-given.given c.in-Some-Configuration.field-0
+    (givens.Configuration c.in-Some-Configuration.configuration) c.in-Some-Configuration.is c.in-Some-Configuration.field-0-is
+    c.in_ok-given.ensures.answers)))
+    c.reload.ensures.quiet
 
-pub returns-clause-quiet : goal.returns-clause-quiet
-returns-clause-quiet g c =
-    quiet_wider (IsOfGiven c.in-Some.given) (IsOfServer (g.S.Source.answered c.tell.new.self)) (g.R.Renderer.page c.args.saved.now.hub.0)
-    c.args.saved.now.hub.1 c.reload.new.saved.hub.1
-    (of_given (g.S.Source.answered c.tell.new.self) c.in-Some.given
-    (c.tell.ensures.keeps (Some c.in-Some.given) c.in-Some.ensures.answers)) c.reload.ensures.quiet
-
-pub returns-clause-keeps : goal.returns-clause-keeps
-returns-clause-keeps g c = λ given was. c.tell.ensures.keeps given (c.hear.ensures.keeps given was)
-
-pub returns-clause-takes : goal.returns-clause-takes
-returns-clause-takes g c = (
-  Some c.in-Some.given,
-  c.tell.ensures.keeps (Some c.in-Some.given) c.in-Some.ensures.answers,
-  (c.in_ok-outcome.outcome, c.tell.ensures.told, c.in_ok-outcome.ensures.outcome),
-)
-
-pub returns-clause-settled : goal.returns-clause-settled
-returns-clause-settled g c = λ config is given.
-    let answered = c.tell.ensures.keeps (Some c.in-Some.given) c.in-Some.ensures.answers in record {
+pub returns-in_ok-outcome-in-Some-Configuration-clause-settled : goal.returns-in_ok-outcome-in-Some-Configuration-clause-settled
+returns-in_ok-outcome-in-Some-Configuration-clause-settled g c = λ config is given.
+    let answered = c.tell.ensures.keeps (Some (givens.Configuration c.in-Some-Configuration.configuration))
+    (was_given (g.S.Source.answered c.hear.new.self) c.in_ok-given.given c.in-Some-Configuration.field-0
+    (givens.Configuration c.in-Some-Configuration.configuration) c.in-Some-Configuration.is c.in-Some-Configuration.field-0-is
+    c.in_ok-given.ensures.answers) in record {
       config = _;
-      in_force = in_force_behind (g.S.Source.answered c.tell.new.self) config c.in-Some.given c.in_ok-outcome.outcome answered;
-      settled = c.in_ok-outcome.ensures.settled config is (given c.in-Some.given answered);
+      in_force = in_force_behind (g.S.Source.answered c.tell.new.self) config c.in-Some-Configuration.configuration
+          c.in_ok-outcome-in-Some-Configuration.outcome answered;
+      settled = c.in_ok-outcome-in-Some-Configuration.ensures.settled config is (given c.in-Some-Configuration.configuration answered);
     }
+
+pub returns-in_ok-follow-in-Some-Records-clause-quiet : goal.returns-in_ok-follow-in-Some-Records-clause-quiet
+returns-in_ok-follow-in-Some-Records-clause-quiet g c =
+    quiet_wider (IsOfGiven (givens.Records c.in-Some-Records.texts)) (IsOfServer (g.S.Source.answered c.hear.new.self))
+    (g.R.Renderer.page c.args.saved.now.hub.0) c.args.saved.now.hub.1 c.follow.new.self.hub.1
+    (of_given (g.S.Source.answered c.hear.new.self) (givens.Records c.in-Some-Records.texts)
+    (was_given (g.S.Source.answered c.hear.new.self) c.in_ok-given.given c.in-Some-Records.field-0
+    (givens.Records c.in-Some-Records.texts) c.in-Some-Records.is c.in-Some-Records.field-0-is c.in_ok-given.ensures.answers))
+    (quiet_follow c.in-Some-Records.texts (g.R.Renderer.page c.args.saved.now.hub.0) c.args.saved.now.hub.1 c.follow.new.self.hub.1
+    c.follow.ensures.edits)
+
+pub returns-in_ok-follow-in-Some-Records-clause-settled : goal.returns-in_ok-follow-in-Some-Records-clause-settled
+returns-in_ok-follow-in-Some-Records-clause-settled g c = λ config is given. record {
+  config = config;
+  in_force = inl refl;
+  settled = settled_alone g.D.Device.seen g.D.Device.may_leave g.D.Device.failed g.D.Device.stale config c.follow.new.self
+      c.in_ok-follow-in-Some-Records.ensures.alone;
+}
+
+pub returns-in-None-clause-quiet : goal.returns-in-None-clause-quiet
+returns-in-None-clause-quiet g c =
+    quiet_nowhere (IsOfServer (g.S.Source.answered c.hear.new.self)) (g.R.Renderer.page c.args.saved.now.hub.0) c.args.saved.now.hub.1
+
+pub returns-in-None-clause-settled : goal.returns-in-None-clause-settled
+returns-in-None-clause-settled g c = λ config is given. record { config = config; in_force = inl refl; settled = is }

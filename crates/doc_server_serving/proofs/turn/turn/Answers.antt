@@ -16,7 +16,7 @@ returns-in_err-settle-clause-turns g c =
     c.args.ready.now (came c.args.net.now) (came c.send_settled.new.net) (came c.take_in_all.new.net) (gone c.args.net.now)
     (gone c.send_settled.new.net) (gone c.take_in_all.new.net) (g.N.Network.has_ended c.send_settled.new.net)
     (g.N.Network.has_ended c.take_in_all.new.net) c.args.peers.now c.send_settled.new.peers c.take_in_all.new.self c.args.share.now
-    c.take_in_all.new.share (ap (λ h. h.1) c.settle.ensures.hub) c.send_settled.ensures.gives c.send_settled.ensures.spares c.send_settled.ensures.came
+    c.take_in_all.new.share c.args.follows (ap (λ h. h.1) c.settle.ensures.hub) c.send_settled.ensures.gives c.send_settled.ensures.spares c.send_settled.ensures.came
     c.take_in_all.ensures.serves c.take_in_all.ensures.gone
 
 pub returns-in_err-settle-clause-waits : goal.returns-in_err-settle-clause-waits
@@ -33,13 +33,13 @@ returns-clause-turns g c =
     c.settle.new.self.hub.1 c.args.ready.now (came c.args.net.now) (came c.send_settled.new.net) (came c.take_in_all.new.net)
     (gone c.args.net.now) (gone c.send_settled.new.net) (gone c.take_in_all.new.net) (g.N.Network.has_ended c.send_settled.new.net)
     (g.N.Network.has_ended c.take_in_all.new.net) c.args.peers.now c.send_settled.new.peers c.take_in_all.new.self c.args.share.now
-    c.take_in_all.new.share (ap (λ h. h.1) c.settle.ensures.hub) c.send_settled.ensures.gives c.send_settled.ensures.spares c.send_settled.ensures.came
+    c.take_in_all.new.share c.args.follows (ap (λ h. h.1) c.settle.ensures.hub) c.send_settled.ensures.gives c.send_settled.ensures.spares c.send_settled.ensures.came
     c.take_in_all.ensures.serves c.take_in_all.ensures.gone in
     ended_sharing (g.R.Renderer.page c.args.saved.now.hub.0) c.args.saved.now.hub.1 c.settle.new.self.hub.1 c.args.ready.now
     (came c.args.net.now) (came c.take_in_all.new.net) (came c.send_settled-2.new.net) (came c.finish_all.new.net)
     (gone c.args.net.now) (gone c.take_in_all.new.net) (gone c.send_settled-2.new.net) (gone c.finish_all.new.net)
     (g.N.Network.has_ended c.send_settled-2.new.net) c.args.peers.now c.take_in_all.new.self c.send_settled-2.new.peers
-    c.finish_all.new.self c.args.share.now c.take_in_all.new.share begun c.send_settled-2.ensures.gives c.send_settled-2.ensures.came
+    c.finish_all.new.self c.args.share.now c.take_in_all.new.share c.args.follows begun c.send_settled-2.ensures.gives c.send_settled-2.ensures.came
     c.finish_all.ensures.lingers c.send_settled-2.ensures.spares c.finish_all.ensures.spares c.finish_all.ensures.gone
 
 pub returns-clause-sent : goal.returns-clause-sent

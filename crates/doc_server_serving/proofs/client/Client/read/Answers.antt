@@ -8,13 +8,6 @@ use Rattle.doc_server_serving.proofs.ReadSteps.{read_ended, read_nothing, read_p
 use Rattle.doc_server_serving.proofs.Wiring.{not_both}
 use Rattle.doc_server_serving.proofs.client.Client.read.Goals as goal
 
-pub returns-then-not-reads-clause-serves : goal.returns-then-not-reads-clause-serves
-returns-then-not-reads-clause-serves g c =
-    let came = g.N.Network.came c.args.net.now c.args.id in
-    read_nothing (g.R.Renderer.page c.args.saved.now.hub.0) came came (g.N.Network.has_ended c.args.net.now c.args.id) c.args.self.now
-    c.args.self.now c.requires.open refl c.args.saved.now.hub.1 c.args.id (sym (append_none came)) c.requires.open
-    (λ r. absurd (not_both c.reads.result (c.reads.ensures r) c.if-not-reads.true))
-
 pub returns-in-Ok-clause-serves : goal.returns-in-Ok-clause-serves
 returns-in-Ok-clause-serves g c =
     let id : ConnId = record { 0 = c.args.id } in

@@ -1,25 +1,45 @@
 use Rattle.std.proofs.Common.{sym, ◌∙◌}
-use Rattle.doc_server_serving.proofs.TakeSteps.{not_taken, quiet_takes, then_answers}
+use Rattle.doc_server_serving.proofs.TakeSteps.{answers_alone, not_taken, quiet_takes, then_answers}
+use Rattle.doc_server_serving.proofs.Wiring.{not_both}
 use Rattle.doc_server_serving.proofs.client.Client.take_in.Goals as goal
 
 pub returns-then-is_idle-clause-serves : goal.returns-then-is_idle-clause-serves
 returns-then-is_idle-clause-serves g c =
     not_taken (g.R.Renderer.page c.args.saved.now.hub.0) c.args.saved.now.hub.1 c.args.id (g.N.Network.came c.args.net.now c.args.id)
-    (g.N.Network.has_ended c.args.net.now c.args.id) c.args.self.now c.args.share.now
+    (g.N.Network.has_ended c.args.net.now c.args.id) c.args.self.now c.args.share.now c.args.follows
     (c.is_idle.ensures.idle c.if-is_idle.true)
+
+pub returns-then-not-reads-clause-serves : goal.returns-then-not-reads-clause-serves
+returns-then-not-reads-clause-serves g c =
+    answers_alone (g.R.Renderer.page c.args.saved.now.hub.0) c.args.saved.now.hub.1 c.answer.new.saved.hub.1 c.args.id
+    (g.N.Network.came c.args.net.now c.args.id) (g.N.Network.has_ended c.args.net.now c.args.id) c.args.self.now c.answer.new.self
+    c.args.share.now c.answer.new.share c.args.follows (c.is_idle.ensures.open c.if-is_idle.false)
+    (c.is_idle.ensures.awake c.if-is_idle.false)
+    (c.is_idle.ensures.stands c.if-is_idle.false) (λ reads. not_both c.reads.result (c.reads.ensures reads) c.if-not-reads.true)
+    c.answer.ensures.answers
+
+pub returns-then-follows-clause-serves : goal.returns-then-follows-clause-serves
+returns-then-follows-clause-serves g c =
+    quiet_takes (g.R.Renderer.page c.args.saved.now.hub.0) c.args.saved.now.hub.1 c.read.new.saved.hub.1 c.args.id
+    (g.N.Network.came c.args.net.now c.args.id) (g.N.Network.came c.read.new.net c.args.id)
+    (g.N.Network.has_ended c.read.new.net c.args.id) c.args.self.now c.read.new.self c.args.share.now
+    c.args.follows (c.is_idle.ensures.awake c.if-is_idle.false) (c.is_idle.ensures.stands c.if-is_idle.false) c.read.ensures.pending
+    c.read.ensures.serves
 
 pub returns-then-not-is_open-clause-serves : goal.returns-then-not-is_open-clause-serves
 returns-then-not-is_open-clause-serves g c =
     quiet_takes (g.R.Renderer.page c.args.saved.now.hub.0) c.args.saved.now.hub.1 c.read.new.saved.hub.1 c.args.id
     (g.N.Network.came c.args.net.now c.args.id) (g.N.Network.came c.read.new.net c.args.id)
     (g.N.Network.has_ended c.read.new.net c.args.id) c.args.self.now c.read.new.self c.args.share.now
-    (c.is_idle.ensures.awake c.if-is_idle.false) (c.is_idle.ensures.stands c.if-is_idle.false) c.read.ensures.serves
+    c.args.follows (c.is_idle.ensures.awake c.if-is_idle.false) (c.is_idle.ensures.stands c.if-is_idle.false) c.read.ensures.pending
+    c.read.ensures.serves
 
 pub returns-clause-serves : goal.returns-clause-serves
 returns-clause-serves g c =
     then_answers (g.R.Renderer.page c.args.saved.now.hub.0) (g.R.Renderer.page c.read.new.saved.hub.0) c.args.saved.now.hub.1
-    c.read.new.saved.hub.1 c.answer.new.saved.hub.1 c.args.id (g.N.Network.came c.args.net.now c.args.id)
+    c.read.new.saved.hub.1 c.answer-2.new.saved.hub.1 c.args.id (g.N.Network.came c.args.net.now c.args.id)
     (g.N.Network.came c.read.new.net c.args.id) (g.N.Network.has_ended c.read.new.net c.args.id) c.args.self.now c.read.new.self
-    c.answer.new.self c.args.share.now c.answer.new.share c.read.ensures.same (sym c.is_open.ensures.open ∙ c.if-not-is_open.false)
+    c.answer-2.new.self c.args.share.now c.answer-2.new.share c.args.follows c.if-follows.false c.read.ensures.same
+    (sym c.is_open.ensures.open ∙ c.if-not-is_open.false)
     (c.is_idle.ensures.awake c.if-is_idle.false) (c.is_idle.ensures.stands c.if-is_idle.false)
-    c.read.ensures.serves c.answer.ensures.answers
+    c.read.ensures.serves c.answer-2.ensures.answers

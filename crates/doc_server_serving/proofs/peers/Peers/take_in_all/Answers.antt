@@ -14,6 +14,7 @@ numbers-init g c = record {
         (g.N.Network.came c.args.net.now) (g.N.Network.has_ended c.args.net.now) c.args.self.now (λ k. refl),
     shares_none c.args.share.now c.args.share.now refl [],
     all_hear_nothing c.args.self.now,
+    λ is. refl,
   );
   gone = λ k. refl;
   others = stay_nobody [] c.args.self.now;
@@ -32,13 +33,14 @@ pub numbers-preserved : goal.numbers-preserved
 numbers-preserved g c = record {
   serves = subst (λ (ready : List ℕ). AllSharing (g.R.Renderer.page c.args.saved.now.hub.0) c.args.saved.now.hub.1
       c.take_in_at.new.saved.hub.1 ready (g.N.Network.came c.args.net.now) (g.N.Network.came c.take_in_at.new.net)
-      (g.N.Network.has_ended c.take_in_at.new.net) c.args.self.now c.take_in_at.new.self c.args.share.now c.take_in_at.new.share)
+      (g.N.Network.has_ended c.take_in_at.new.net) c.args.self.now c.take_in_at.new.self c.args.share.now c.take_in_at.new.share
+      c.args.follows)
       (sym (take_more c.args.ready.now c.numbers.id-index 0 c.numbers-test.true))
       (all_sharing_join (g.R.Renderer.page c.args.saved.now.hub.0) (g.R.Renderer.page c.numbers.saved.hub.0) c.args.saved.now.hub.1
       c.numbers.saved.hub.1 c.take_in_at.new.saved.hub.1 (take c.numbers.id-index c.args.ready.now) _
       (g.N.Network.came c.args.net.now) (g.N.Network.came c.numbers.net) (g.N.Network.came c.take_in_at.new.net)
       (g.N.Network.has_ended c.numbers.net) (g.N.Network.has_ended c.take_in_at.new.net) c.args.self.now c.numbers.self
-      c.take_in_at.new.self c.args.share.now c.numbers.share c.take_in_at.new.share c.numbers.invariant.same
+      c.take_in_at.new.self c.args.share.now c.numbers.share c.take_in_at.new.share c.args.follows c.numbers.invariant.same
       c.take_in_at.ensures.ended c.numbers.invariant.serves c.take_in_at.ensures.serves);
   gone = λ k. c.take_in_at.ensures.gone k ∙ c.numbers.invariant.gone k;
   others = subst (λ (xs : List ℕ). StayBut xs c.args.self.now c.take_in_at.new.self)
@@ -60,7 +62,7 @@ pub returns-clause-serves : goal.returns-clause-serves
 returns-clause-serves g c =
     subst (λ (ready : List ℕ). AllSharing (g.R.Renderer.page c.args.saved.now.hub.0) c.args.saved.now.hub.1 c.numbers.saved.hub.1 ready
     (g.N.Network.came c.args.net.now) (g.N.Network.came c.numbers.net) (g.N.Network.has_ended c.numbers.net) c.args.self.now
-    c.numbers.self c.args.share.now c.numbers.share)
+    c.numbers.self c.args.share.now c.numbers.share c.args.follows)
     (ap (λ n. take n c.args.ready.now) (omega (arith, c.numbers-test.false, c.numbers.auto.id-index-end)) ∙ take-length c.args.ready.now)
     c.numbers.invariant.serves
 

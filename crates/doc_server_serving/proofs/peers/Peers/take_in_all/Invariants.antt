@@ -9,7 +9,7 @@ use Rattle.doc_server_serving.proofs.peers.Peers.take_in_all.Given as goal
 abbrev pub invariant-numbers : goal.invariant-numbers
 invariant-numbers g l = record {
   serves : AllSharing (g.R.Renderer.page l.fn.saved.hub.0) l.fn.saved.hub.1 l.saved.hub.1 (take l.id-index l.ready)
-      (g.N.Network.came l.fn.net) (g.N.Network.came l.net) (g.N.Network.has_ended l.net) l.fn.self l.self l.fn.share l.share;
+      (g.N.Network.came l.fn.net) (g.N.Network.came l.net) (g.N.Network.has_ended l.net) l.fn.self l.self l.fn.share l.share l.follows;
   gone : Rests (g.N.Network.gone l.fn.net) (g.N.Network.gone l.net);
   others : StayBut (take l.id-index l.ready) l.fn.self l.self;
   woken : AreWoken (g.N.Network.wakes l.fn.net) l.fn.self → AreWoken (g.N.Network.wakes l.net) l.self;

@@ -11,19 +11,22 @@ use Rattle.doc_server_serving.proofs.Hearing.{nobody_hears, one_hears}
 use Rattle.doc_server_serving.proofs.TableServing.{AllSharing, serves_at, serves_nobody, shares_none, shares_one}
 use Rattle.doc_server_serving.proofs.Parting.{others_in, others_none}
 use Rattle.doc_server_serving.proofs.Tables.{woken_at}
+use Rattle.doc_server_serving.proofs.Visits.{either_none, one_either}
 use Rattle.doc_server_serving.proofs.peers.Peers.take_in_at.Goals as goal
 
 pub returns-in_default-clause-serves : goal.returns-in_default-clause-serves
 returns-in_default-clause-serves g c =
     let render = g.R.Renderer.page c.args.saved.now.hub.0 in let w = c.args.saved.now.hub.1 in
     let came = g.N.Network.came c.args.net.now in let ended = g.N.Network.has_ended c.args.net.now in
-    subst (λ (t : Table). AllSharing render w w (c.args.id ∷ []) came came ended c.args.self.now t c.args.share.now c.begin.new.self)
+    subst (λ (t : Table). AllSharing render w w (c.args.id ∷ []) came came ended c.args.self.now t c.args.share.now c.begin.new.self
+    c.args.follows)
     (sym (ap (λ (t : BTreeMap ℕ Peer). map.from_entries {R = nat_cmp} t.entries) c.get_mut.follows.holds-at-none ∙ c.self.view_is)) (
       serves_nobody render w (c.args.id ∷ []) came came ended c.args.self.now (λ k. refl),
       shares_none c.args.share.now c.begin.new.self (ap (λ (l : Left). l.dear) c.begin.ensures) (c.args.id ∷ []),
       nobody_hears c.args.id c.args.self.now
           (ap (λ m. map.get m c.args.id) (sym c.self.view_is)
           ∙ sym (looked_up nat_cmp_total exact_unsigned c.self.inside.clients.entries c.args.id) ∙ sym c.in_default.ensures.value),
+      λ is. one_either c.args.id [] (either_none c.args.id),
     )
 
 pub returns-clause-serves : goal.returns-clause-serves
@@ -45,6 +48,7 @@ returns-clause-serves g c =
           (inserted nat_cmp_total exact_unsigned es (c.get_mut.follows.lender c.take_in.new.self).entries c.args.id c.take_in.new.self
           (k (rw (← h) refl)).0 ∙ ap (λ m. map.insert m c.args.id c.take_in.new.self) c.self.view_is)
           c.take_in.ensures.serves.2 c.take_in.ensures.serves.3,
+      λ is. one_either c.args.id c.take_in.ensures.serves.0.run (c.take_in.ensures.serves.4 is),
     )
 
 pub returns-clause-woken : goal.returns-clause-woken

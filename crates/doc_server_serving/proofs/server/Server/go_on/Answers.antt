@@ -1,4 +1,5 @@
-use Rattle.std.proofs.Common.{◌≡◌, ◌∙◌, Bool, true, false, refl, sym, inl}
+use Rattle.std.proofs.Common.{◌≡◌, ◌∙◌, Bool, true, false, refl, ap, sym, inl}
+use Rattle.std.specs.Prelude.{◌||◌}
 use Rattle.doc_server_serving.proofs.Crashing.{reload_behind, turn_alone}
 use Rattle.doc_server_serving.proofs.Readers.{turned, turned_with}
 use Rattle.doc_server_serving.proofs.server.Server.go_on.Goals as goal
@@ -6,9 +7,10 @@ use Rattle.doc_server_serving.proofs.server.Server.go_on.Goals as goal
 not_both : true ≡ false → ⊥
 not_both e = cc
 
-unheard : (hears : Bool) → hears ≡ false → hears ≡ true → ⊥
-unheard true silent is = cc
-unheard false silent is = cc
+unasked : (hears follows : Bool) → (hears || follows) ≡ false → (hears || follows) ≡ true → ⊥
+unasked true follows silent is = cc
+unasked false true silent is = cc
+unasked false false silent is = cc
 
 pub turn-requires-clause-all : goal.turn-requires-clause-all
 turn-requires-clause-all g c = c.requires.all
@@ -53,15 +55,15 @@ pub returns-then-branch-clause-settled : goal.returns-then-branch-clause-settled
 returns-then-branch-clause-settled g c = λ config is given.
     record { config = config; in_force = inl refl; settled = c.in_ok-turn.ensures.settled config is }
 
-pub returns-then-not-hears_input-clause-keeps : goal.returns-then-not-hears_input-clause-keeps
-returns-then-not-hears_input-clause-keeps g c = c.note.ensures.keeps
+pub returns-then-not-is_asked-clause-keeps : goal.returns-then-not-is_asked-clause-keeps
+returns-then-not-is_asked-clause-keeps g c = c.note.ensures.keeps
 
-pub returns-then-not-hears_input-clause-settled : goal.returns-then-not-hears_input-clause-settled
-returns-then-not-hears_input-clause-settled g c = λ config is given.
+pub returns-then-not-is_asked-clause-settled : goal.returns-then-not-is_asked-clause-settled
+returns-then-not-is_asked-clause-settled g c = λ config is given.
     record { config = config; in_force = inl refl; settled = c.in_ok-turn.ensures.settled config is }
 
-pub returns-then-not-hears_input-clause-any_moment : goal.returns-then-not-hears_input-clause-any_moment
-returns-then-not-hears_input-clause-any_moment g c =
+pub returns-then-not-is_asked-clause-any_moment : goal.returns-then-not-is_asked-clause-any_moment
+returns-then-not-is_asked-clause-any_moment g c =
     let goes = turned g.R.Renderer.page g.N.Network.came g.N.Network.gone g.N.Network.wakes g.N.Network.is_free
     (g.S.Source.answered c.note.new.self) c.args.saved.now.hub c.turn.new.saved.hub c.args.net.now c.turn.new.net c.args.self.now.peers
     c.turn.new.self.peers c.turn.ensures.goes in (
@@ -116,8 +118,11 @@ returns-clause-any_moment g c = (
 pub returns-then-branch-clause-takes : goal.returns-then-branch-clause-takes
 returns-then-branch-clause-takes g c = λ goes. absurd (not_both goes)
 
-pub returns-then-not-hears_input-clause-takes : goal.returns-then-not-hears_input-clause-takes
-returns-then-not-hears_input-clause-takes g c = λ goes hears. absurd (unheard c.turn.new.next.hears_input (sym c.hears_input.ensures ∙ c.if-not-hears_input.true) hears)
+pub returns-then-not-is_asked-clause-takes : goal.returns-then-not-is_asked-clause-takes
+returns-then-not-is_asked-clause-takes g c = λ goes asks.
+    absurd (unasked c.hears_input-has_input.result c.follows-follows.result (sym c.is_asked.ensures ∙ c.if-not-is_asked.true)
+    (ap (λ b. b || c.follows-follows.result) c.hears_input-has_input.ensures
+    ∙ ap (λ b. c.turn.new.next.hears_input || b) c.follows-follows.ensures ∙ asks))
 
 pub returns-clause-takes : goal.returns-clause-takes
 returns-clause-takes g c = λ goes hears. (c.turn.new.saved.hub.1, c.in_ok-take_given.ensures.takes)
