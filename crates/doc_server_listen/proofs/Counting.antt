@@ -135,7 +135,7 @@ by_gives : {X E : Type 0} (P : World → Type 0) (memory : E) (given : World × 
 by_gives {X = X} {E = E} P memory given w v (Ok x) before after gives = subst (λ (q : World × Result X E). P q.0) gives after
 by_gives P memory given w v (Err e) before after gives = subst P (sym gives.1) before
 
-by_equation : {S : Type 0} (P : World → Type 0) (given : World × S) (v : World) (said : S) → P given.0
+pub by_equation : {S : Type 0} (P : World → Type 0) (given : World × S) (v : World) (said : S) → P given.0
     → ◌≡◌ {A = World × S} given (v, said) → P v
 by_equation {S = S} P given v said after is = subst (λ (q : World × S). P q.0) is after
 

@@ -1,4 +1,6 @@
 pub mod CostSteps
 pub mod Counting
+pub mod OnlyReads
+mod Reading
 mod Removals
 mod StepLimits

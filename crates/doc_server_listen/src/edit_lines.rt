@@ -9,6 +9,7 @@ ghost use Rattle.doc_server_journal_records.specs.Records.{IsPlain, text_limit};
 ghost use Rattle.doc_server_script.specs.PageLines.{lines_of};
 ghost use Rattle.doc_server_script.specs.PlainLines.{HasBytes};
 ghost use Rattle.doc_server_listen.specs.Edits.{Adds, MakesIn, NamesGroups, TakesMore, edit_at, has_room, longest};
+ghost use Rattle.doc_server_listen.specs.OnlyReads.{StepOnlyReads};
 ghost use Rattle.doc_store.specs.Store.{set_page};
 
 use doc_hub::event::{ConnId, Step};
@@ -133,13 +134,17 @@ impl EditLines {
         }
     }
 
-    /// Adds the line of an edit that a step of the hub made, where it stands now.
+    /// Adds the line of an edit that a step of the hub made, where it stands now. Without an edit nothing is added.
     fn push<R: Renderer + Drop>(&mut self, hub: &Hub<R>, edit: &Option<Edit>)
         requires room { TakesMore self.old
             (lines_of (option_to_list (edit_at hub.now.1 edit.now))) }
         requires bytes { IfSome (edit_at hub.now.1 edit.now) HasBytes }
-        ensures { Adds self.old self.new (option_to_list (edit_at hub.now.1 edit.now)) }
+        ensures adds { Adds self.old self.new (option_to_list (edit_at hub.now.1 edit.now)) }
+        ensures none { edit.now ≡ None → self.new ≡ self.old }
     {
+        if edit.is_none() {
+            return;
+        }
         let Some(lines) = &mut self.lines else {
             return;
         };
@@ -161,7 +166,7 @@ fn longest(takes_puts: bool) -> usize
     }
 }
 
-/// One step of a connection, and the line of its edit right behind it.
+/// One step of a connection, and the line of its edit right behind it. A step that only reads adds none.
 pub fn step_and_keep<R: Renderer + Drop>(
     hub: &mut Hub<R>,
     id: ConnId,
@@ -171,6 +176,7 @@ pub fn step_and_keep<R: Renderer + Drop>(
     ensures world { Happens (R.page hub.old.0) hub.old.1 (step_on id) hub.new.1 result }
     ensures edit { (edit : _) × MakesIn (R.page hub.old.0) hub.old.1 (step_on id)
         (stepping result) hub.new.1 edit × Adds edits.old edits.new (option_to_list edit) }
+    ensures rests { StepOnlyReads hub.old.1 id.0 → edits.new ≡ edits.old }
     ensures same { R.page hub.new.0 ≡ R.page hub.old.0 }
 {
     let (step, edit) = hub.step_edited(id)?;

@@ -2,6 +2,7 @@
 
 ghost use Rattle.doc_server_listen.specs.Counting.{EditsAreCounted};
 ghost use Rattle.doc_server_listen.specs.Edits.{TellsRemovalsAlone};
+ghost use Rattle.doc_server_listen.specs.OnlyReads.{StepsThatReadLeaveTheSite};
 
 /// Where no puts are taken a step tells no edit but a removal.
 #[tactic(auto, using(crate::proofs::Removals::tells_removals_alone))]
@@ -14,4 +15,9 @@ pub fn steps_tell_removals_alone()
 #[tactic(auto, using(crate::proofs::Counting::edits_are_counted))]
 pub fn edits_are_counted()
     ensures { EditsAreCounted }
+{}
+
+/// A step of a request that only reads, or of none, leaves the site, its media, the count of its puts and the readers as they were.
+pub fn steps_that_read_leave_the_site()
+    ensures { StepsThatReadLeaveTheSite }
 {}
