@@ -146,7 +146,47 @@ def busy(count):
         print(f"{count} files, {changed} changed: {took * 1_000:.0f} ms; slowest reply beside it {slowest[0] * 1_000:.0f} ms")
     stop.set()
     reader.join()
+    edited(server, count)
     scene.check("the end", server.end() == 0)
+
+
+def edited(server, count):
+    """An owner's edits beside a reload whose edits are made with turns between: each is answered, none is lost, and the site is a restart's."""
+    for i in range(count // 10):
+        put(f"docs/p{i % 100}/q{i}.md", f"# Page {i}\n\n" + f"[next](q{i + 1}.md) and the last words of page {i}.\n" * 40)
+    codes, stop, slowest = [], threading.Event(), [0.0]
+
+    def edit():
+        owner = Client(server.port, "tok-own")
+        while not stop.is_set():
+            path, begun = len(codes) % 5, time.monotonic()
+            codes.append(owner.ask(f"/page/own{path}.md", "PUT", f"# Own {len(codes)}".encode())[0])
+            slowest[0] = max(slowest[0], time.monotonic() - begun)
+
+    editor = threading.Thread(target=edit)
+    editor.start()
+    said = reload(server, len(server.said()))
+    stop.set()
+    editor.join()
+    scene.check("edits beside a reload", codes and set(codes) <= {201, 204}, set(codes))
+    scene.check("a reload beside edits", said.startswith(f"reload: 4 readers, {count // 10} pages put, 0 removed"), said)
+    print(f"{len(codes)} edits beside a reload of {count // 10} pages: the slowest took {slowest[0] * 1_000:.0f} ms")
+    shutil.rmtree("copy", ignore_errors=True)
+    os.mkdir("copy")
+    shutil.copy("site.toml", "copy/site.toml")
+    shutil.copy("journal-of-many", "copy/journal")
+    shutil.copytree("docs", "copy/docs")
+    os.chdir("copy")
+    try:
+        again = scene.listen("site.toml", journal="journal")
+    finally:
+        os.chdir("..")
+    targets = ["/pages", "/broken"] + [f"/page/own{i}.md" for i in range(5)] + [f"/page/docs/p{i % 100}/q{i}.md" for i in range(0, count, 50)]
+    ask = lambda port: [Client(port, "tok-own").ask(it) for it in targets]
+    wanted, found = ask(again.port), ask(server.port)
+    again.kill()
+    differ = [targets[i] for i in range(len(targets)) if wanted[i] != found[i]]
+    scene.check("as a start anew", not differ, differ[:3])
 
 
 def main():

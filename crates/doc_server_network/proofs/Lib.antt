@@ -1,5 +1,6 @@
 mod Crashes
 mod Following
+pub mod Leading
 pub mod MemorySteps
 pub mod Passing
 mod QuietEvents

@@ -17,24 +17,34 @@ use Rattle.doc_hub.specs.Runs.{Happens}
 use Rattle.doc_hub.specs.Worlds.{World, connected, last_id, world_pushed}
 use Rattle.doc_store_readers.specs.Readers.{ReaderTable}
 use Rattle.doc_store_readers.specs.declared.readers.ReaderError.{ReaderError}
+use Rattle.doc_server_listen.specs.Sites.{IsSameSite}
 
-pub record IsSameSite (w v : World) : Type 0 where
+pub record IsSameStore (w v : World) : Type 0 where
   pub site : v.site ≡ w.site
   pub media : v.media ≡ w.media
   pub puts : v.puts ≡ w.puts
 
 -- the same, and whether puts are taken
 pub record IsQuiet (w v : World) : Type 0 where
+  pub same : IsSameStore w v
+  pub taking : v.takes_puts ≡ w.takes_puts
+
+-- a connection's event leaves the readers, too
+pub record IsAside (w v : World) : Type 0 where
   pub same : IsSameSite w v
   pub taking : v.takes_puts ≡ w.takes_puts
 
-as_before : (w : World) → IsQuiet w w
-as_before w = record { same = record { site = refl; media = refl; puts = refl }; taking = refl }
+as_before : (w : World) → IsAside w w
+as_before w = record { same = record { site = refl; media = refl; puts = refl; readers = refl }; taking = refl }
 
 of_given : {X E : Type 0} (memory : E) (given : World × Result X E) (w v : World) (said : Result X E) → Gives memory given w v said
-    → IsQuiet w given.0 → IsQuiet w v
-of_given memory given w v (Ok x) gives same = subst (λ g. IsQuiet w g.0) gives same
-of_given memory given w v (Err e) gives same = subst (IsQuiet w) (sym gives.1) (as_before w)
+    → IsAside w given.0 → IsAside w v
+of_given memory given w v (Ok x) gives same = subst (λ g. IsAside w g.0) gives same
+of_given memory given w v (Err e) gives same = subst (IsAside w) (sym gives.1) (as_before w)
+
+quiet : (w v : World) → IsAside w v → IsQuiet w v
+quiet w v is =
+    record { same = record { site = is.same.site; media = is.same.media; puts = is.same.puts }; taking = is.taking }
 
 abbrev numbered : World → World × Result ConnId ConnectError
 numbered w = (
@@ -42,27 +52,47 @@ numbered w = (
   Ok (record { 0 = w.given + 1 }),
 )
 
-connected_same : (w : World) → IsQuiet w (connected w).0
+connected_same : (w : World) → IsAside w (connected w).0
 connected_same w = by (nat_lt w.given last_id)
   where
-    by : (t : Bool) → IsQuiet w (cond t (numbered w) (w, Err connect_errors.NoIds)).0
-    by true = record { same = record { site = refl; media = refl; puts = refl }; taking = refl }
+    by : (t : Bool) → IsAside w (cond t (numbered w) (w, Err connect_errors.NoIds)).0
+    by true = record { same = record { site = refl; media = refl; puts = refl; readers = refl }; taking = refl }
     by false = as_before w
 
 module _ (render : Renders) (w v : World) where
+  connects_aside : (said : Result ConnId ConnectError) → Happens render w events.Connect v said → IsAside w v
+  connects_aside said happens = of_given connect_errors.Memory (connected w) w v said happens (connected_same w)
+
+  pushes_aside : (id : ConnId) (bytes : List ℕ) (said : Result (Unit {0}) PushError) → Happens render w (push_on id bytes) v said
+      → IsAside w v
+  pushes_aside id bytes said happens =
+      of_given push_errors.Memory (world_pushed w id.0 bytes) w v said happens
+      (record { same = record { site = refl; media = refl; puts = refl; readers = refl }; taking = refl })
+
+  disconnects_aside : (id : ConnId) (said : Bool) → Happens render w (disconnect_on id) v said → IsAside w v
+  disconnects_aside id said happens =
+      subst (λ (g : World × Bool). IsAside w g.0) happens
+      (record { same = record { site = refl; media = refl; puts = refl; readers = refl }; taking = refl })
+
   pub connects : (said : Result ConnId ConnectError) → Happens render w events.Connect v said → IsQuiet w v
-  connects said happens = of_given connect_errors.Memory (connected w) w v said happens (connected_same w)
+  connects said happens = quiet w v (connects_aside said happens)
+
+  pub connects_same : (said : Result ConnId ConnectError) → Happens render w events.Connect v said → IsSameSite w v
+  connects_same said happens = (connects_aside said happens).same
 
   pub pushes : (id : ConnId) (bytes : List ℕ) (said : Result (Unit {0}) PushError) → Happens render w (push_on id bytes) v said
       → IsQuiet w v
-  pushes id bytes said happens =
-      of_given push_errors.Memory (world_pushed w id.0 bytes) w v said happens
-      (record { same = record { site = refl; media = refl; puts = refl }; taking = refl })
+  pushes id bytes said happens = quiet w v (pushes_aside id bytes said happens)
+
+  pub pushes_same : (id : ConnId) (bytes : List ℕ) (said : Result (Unit {0}) PushError) → Happens render w (push_on id bytes) v said
+      → IsSameSite w v
+  pushes_same id bytes said happens = (pushes_aside id bytes said happens).same
 
   pub disconnects : (id : ConnId) (said : Bool) → Happens render w (disconnect_on id) v said → IsQuiet w v
-  disconnects id said happens =
-      subst (λ (g : World × Bool). IsQuiet w g.0) happens
-      (record { same = record { site = refl; media = refl; puts = refl }; taking = refl })
+  disconnects id said happens = quiet w v (disconnects_aside id said happens)
+
+  pub disconnects_same : (id : ConnId) (said : Bool) → Happens render w (disconnect_on id) v said → IsSameSite w v
+  disconnects_same id said happens = (disconnects_aside id said happens).same
 
   pub sets_readers : (readers : ReaderTable) → Happens render w (events.Reader (reader_edits.All readers)) v (Ok tt) → IsQuiet w v
   sets_readers readers happens =
@@ -72,5 +102,5 @@ module _ (render : Renders) (w v : World) where
   pub readers_give : (readers : ReaderTable) → Happens render w (events.Reader (reader_edits.All readers)) v (Ok tt) → v.given ≡ w.given
   readers_give readers happens = subst (λ (g : World × Result (Unit {0}) ReaderError). g.0.given ≡ w.given) happens refl
 
-  pub takes : (takes : Bool) → Happens render w (events.TakePuts takes) v tt → IsSameSite w v
-  takes puts happens = subst (IsSameSite w) (sym happens) (record { site = refl; media = refl; puts = refl })
+  pub takes : (takes : Bool) → Happens render w (events.TakePuts takes) v tt → IsSameStore w v
+  takes puts happens = subst (IsSameStore w) (sym happens) (record { site = refl; media = refl; puts = refl })

@@ -24,14 +24,14 @@ use Rattle.doc_server_listen.specs.Counting.{Counts, IsOfPeer, count_in}
 use Rattle.doc_server_listen.specs.Edits.{Adds, AreMade, Kept, MakesIn, accepted, longest_removal}
 use Rattle.doc_server_script.specs.PageLines.{line_of, lines_of}
 use Rattle.doc_server_settling.specs.Reserves.{removal_most, reserve, used}
-use Rattle.doc_server_network.proofs.QuietEvents.{IsQuiet, IsSameSite}
+use Rattle.doc_server_network.proofs.QuietEvents.{IsQuiet, IsSameStore}
 use Rattle.doc_server_network.proofs.Records.{as_one_record}
 use Rattle.doc_server_network.proofs.Rooms.{keeps_reserve, leaves, takes_more}
 use Rattle.doc_server_network.specs.Saved.{IsSavedIn, Waits, takes_step}
 
 -- ---- where the site stays
 
-pub restored_too : (config : StoreState) (texts : List (List ℕ)) (w v : World) → IsSameSite w v → IsRestored config texts w
+pub restored_too : (config : StoreState) (texts : List (List ℕ)) (w v : World) → IsSameStore w v → IsRestored config texts w
     → IsRestored config texts v
 restored_too config texts w v same is = record {
   store = is.store;
@@ -40,7 +40,7 @@ restored_too config texts w v same is = record {
   puts = subst (λ n. is.store.puts ≤ n) (sym same.puts) is.puts;
 }
 
-pub apart_too : (w v : World) → IsSameSite w v → IsApart w.site w.media → IsApart v.site v.media
+pub apart_too : (w v : World) → IsSameStore w v → IsApart w.site w.media → IsApart v.site v.media
 apart_too w v same is = subst (λ s. IsApart s v.media) (sym same.site) (subst (λ m. IsApart w.site m) (sym same.media) is)
 
 waits_too : (config : StoreState) (texts : List (List ℕ)) (room most : ℕ) (w v : World) (lines : List ℕ) → IsQuiet w v

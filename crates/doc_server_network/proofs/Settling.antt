@@ -14,7 +14,7 @@ use Rattle.doc_server_listen.specs.Edits.{Kept}
 use Rattle.doc_server_settling.specs.Reserves.{HasRoomFor, HasRoomToRemove, removal_most}
 use Rattle.doc_store.specs.Store.{StoreState, page_limit}
 use Rattle.doc_server_network.proofs.Crashes.{leaves_begin, leaves_either}
-use Rattle.doc_server_network.proofs.QuietEvents.{IsSameSite}
+use Rattle.doc_server_network.proofs.QuietEvents.{IsSameStore}
 use Rattle.doc_server_network.proofs.Records.{none_behind, none_left_out}
 use Rattle.doc_server_network.proofs.Rooms.{first_lines, first_step, removal_may_come, used_of_some}
 use Rattle.doc_server_network.proofs.Saving.{apart_too, restored_too}
@@ -137,7 +137,7 @@ module _ {D : Type 0} (seen : D → Option (List ℕ)) (may_leave : D → List �
         leaves_begin seen may_leave failed stale moment left_since config begin is.texts journal after is.began (leaves is.texts is.is_open)
 
   pub grown : (unsaved : Kept) (w v : World) (journal after : Journal D) → unsaved.lines ≡ Some [] → unsaved.is_whole ≡ true
-      → IsSameSite w v
+      → IsSameStore w v
       → ((texts : List (List ℕ)) → IsOpen seen may_leave failed stale journal texts → IsOpen seen may_leave failed stale after texts)
       → HasRoomFor after.room v → Saved w journal unsaved w → Saved v after (no_lines after.room) v
   grown unsaved w v journal after none whole same opens room is =
@@ -182,7 +182,7 @@ module _ {D : Type 0} (seen : D → Option (List ℕ)) (may_leave : D → List �
       leaves))
 
   pub grows : (unsaved behind : Kept) (w v : World) (o : Option (Journal D)) (journal after : Journal D) → o ≡ Some journal
-      → HasAll o unsaved → IsSameSite w v
+      → HasAll o unsaved → IsSameStore w v
       → ((texts : List (List ℕ)) → IsOpen seen may_leave failed stale journal texts → IsOpen seen may_leave failed stale after texts)
       → (HasRoomToRemove journal.room w → HasRoomFor after.room v) → behind ≡ no_lines after.room
       → IfSome o (λ j. Saved w j unsaved w) → Saved v after behind v

@@ -1,11 +1,8 @@
 -- What following another server does to a hub. All of this is this project's choice.
-use Rattle.std.specs.Prelude.{◌≡◌, ◌≢◌, ◌++◌, List, [], ℕ, Bool, true, All, Err}
-use Rattle.std.proofs.Common.{refl, ap, subst, ◌∙◌}
-use Rattle.std.proofs.lemmas.List.Elements.{All-nil, All-append}
+use Rattle.std.specs.Prelude.{◌≡◌, ◌≢◌, List, ℕ, Bool, true, All, Err}
 use Rattle.doc_hub_answers.specs.Replies.{Renders}
-use Rattle.doc_hub.specs.Runs.{Happened, Runs, nothing}
+use Rattle.doc_hub.specs.Runs.{Happened, Runs}
 use Rattle.doc_hub.specs.Worlds.{World, store_of, with_store}
-use Rattle.doc_hub.proofs.RunParts.{runs_join}
 use Rattle.doc_media.specs.Media.{Media}
 use Rattle.doc_server_network.specs.declared.follow_fault.FollowFault.{FollowFault}
 use Rattle.doc_server_network.specs.declared.follow_fault.FollowFault.TheVariants as follow_faults
@@ -35,28 +32,3 @@ pub record IsEdited {D R : Type 0} (render drawn : Renders) (old new : SavedHub 
   pub others : new.hub.1 ≡ with_store old.hub.1 (store_of new.hub.1)
   pub journal : new.journal ≡ old.journal
   pub unsaved : new.unsaved ≡ old.unsaved
-
--- it is so where none was made, and of edits behind edits
-pub edited_itself : {D R : Type 0} (render : Renders) (k : SavedHub D R) → IsEdited render render k k
-edited_itself render k = record {
-  page = refl;
-  edits = record { run = []; runs = nothing k.hub.1; own = All-nil IsSiteEdit };
-  others = refl;
-  journal = refl;
-  unsaved = refl;
-}
-
-pub edited_behind : {D R : Type 0} (render drawn shown : Renders) (a b c : SavedHub D R) → IsEdited render drawn a b
-    → IsEdited drawn shown b c → IsEdited render shown a c
-edited_behind render drawn shown a b c first second = record {
-  page = second.page ∙ first.page;
-  edits = record {
-    run = first.edits.run ++ second.edits.run;
-    runs = runs_join render a.hub.1 b.hub.1 c.hub.1 first.edits.run second.edits.run first.edits.runs
-        (subst (λ r. Runs r b.hub.1 second.edits.run c.hub.1) first.page second.edits.runs);
-    own = All-append IsSiteEdit first.edits.run second.edits.run first.edits.own second.edits.own;
-  };
-  others = second.others ∙ ap (λ w. with_store w (store_of c.hub.1)) first.others;
-  journal = second.journal ∙ first.journal;
-  unsaved = second.unsaved ∙ first.unsaved;
-}

@@ -1,10 +1,10 @@
 -- What a reload of pages does to a hub and to its journal. All of this is this project's choice.
 use Rattle.std.specs.Prelude.{◌≡◌, ◌≤◌, ◌+◌, ◌*◌, ◌⊎◌, ⊤, ℕ, List, [], nat_le, Bool, true, false, length, All, Contains, Option, Some, None, option_map}
-use Rattle.std.specs.Prelude.{Result, Ok, Err}
+use Rattle.std.specs.Prelude.{IfSome, Result, Ok, Err}
 use Rattle.std.specs.FinMap as map
 use Rattle.std.specs.List.{filter}
 use Rattle.doc_hub.specs.Runs.{Happened, Runs}
-use Rattle.doc_hub.specs.Worlds.{World}
+use Rattle.doc_hub.specs.Worlds.{IsApart, World, store_of}
 use Rattle.doc_hub_answers.specs.Replies.{Renders}
 use Rattle.doc_hub_events.specs.declared.event.Event.{Event}
 use Rattle.doc_hub_events.specs.declared.event.Event.TheVariants as events
@@ -12,11 +12,12 @@ use Rattle.doc_media.specs.Media.{Media}
 use Rattle.doc_server_journal.specs.Journals.{IsOpen}
 use Rattle.doc_server_journal.specs.declared.journal.Journal.{Journal}
 use Rattle.doc_server_reload.specs.Leads.{led}
+use Rattle.doc_server_reload.specs.RestoredLaws.{RestoredSitesAreOfCalls, WhatIsLedIsRestored}
 pub use Rattle.doc_server_reload.specs.RestoredLaws.{pages_alone}
 use Rattle.doc_server_reload.specs.Texts.{moved_to}
 use Rattle.doc_server_reload.specs.declared.anew.TextsFault.{TextsFault}
 use Rattle.doc_server_reload.specs.declared.anew.TextsFault.TheVariants as texts_faults
-use Rattle.doc_server_restore.specs.Restores.{restored, unstamped}
+use Rattle.doc_server_restore.specs.Restores.{all_made, restored, unstamped}
 use Rattle.doc_server_restore.specs.declared.fault.RestoreFault.{RestoreFault}
 use Rattle.doc_server_restore.specs.declared.fault.RestoreFault.TheVariants as restore_faults
 use Rattle.doc_server_settling.specs.Reserves.{removal_most, takes_removals_of}
@@ -24,11 +25,15 @@ use Rattle.doc_server_settling.specs.declared.fault.TurnFault.TheVariants as tur
 use Rattle.doc_store.specs.Store.{StoreState, page_limit, stamp_after}
 use Rattle.doc_store.specs.declared.site_edit.SiteEdit.{SiteEdit}
 use Rattle.doc_store.specs.declared.site_edit.SiteEdit.TheVariants as site_edits
+use Rattle.doc_store_readers.specs.Sites.{IsSite}
 use Rattle.doc_server_network.specs.Crashes.{OfBoth}
+use Rattle.doc_server_network.specs.Saved.{no_lines}
+use Rattle.doc_server_network.specs.declared.lead.Lead.{Lead}
 use Rattle.doc_server_network.specs.declared.reload_fault.Refusal.{Refusal}
 use Rattle.doc_server_network.specs.declared.reload_fault.Refusal.TheVariants as refusals
 use Rattle.doc_server_network.specs.declared.reload_fault.ReloadFault.{ReloadFault}
 use Rattle.doc_server_network.specs.declared.reload_fault.ReloadFault.TheVariants as faults
+use Rattle.doc_server_network.specs.declared.saved_hub.SavedHub.{SavedHub}
 
 -- ---- what came of it
 
@@ -77,6 +82,10 @@ count_of_removals edits = length (filter is_removal edits)
 -- A site that a start would serve now: the pages of a configuration, and on them the edits of the records of these texts, beside media.
 pub record IsOfStart (config : StoreState) (media : Media) (texts : List (List ℕ)) (again : StoreState) : Type 0 where
   pub gives : restored media (unstamped config) texts ≡ Ok (unstamped again)
+
+-- what a reload leaves is restored by a start, and what a start restores is as calls make it
+abbrev pub ReloadsAreRestored : Type 0
+ReloadsAreRestored = WhatIsLedIsRestored × RestoredSitesAreOfCalls
 
 -- an edit on the way from some site to one that a start over these pages would serve
 pub record IsOnTheWay (config : StoreState) (edit : SiteEdit) : Type 0 where
@@ -165,3 +174,23 @@ module _ {D : Type 0} (seen : D → Option (List ℕ)) (may_leave : D → List �
     pub again : StoreState
     pub is : IsOfStart config w.media texts again
     pub site : w.site ≡ again.site
+
+  -- A reload is under way. Its edits lead the site of the world in which it began to the one that a start over these pages would serve, with
+  -- so many records. Some of them are made, and nothing else of the site, of its media and of the journal has changed since: no line waits,
+  -- and the journal has room for the removal of each page of the site to come.
+  module _ {R : Type 0} where
+    pub record IsUnderWay (config : StoreState) (begin : World) (lead : Lead) (done : List SiteEdit) (saved : SavedHub D R) : Type 0 where
+      pub texts : List (List ℕ)
+      pub are_texts : AreTexts saved.journal texts
+      pub count : lead.records ≡ length texts
+      pub again : StoreState
+      pub is : IsOfStart config begin.media texts again
+      pub edits : lead.edits ≡ led begin.site again.site
+      pub old_site : IsSite begin.site
+      pub new_site : IsSite again.site
+      pub counted : again.puts ≤ config.puts + begin.puts
+      pub fits : RemovalsFit (option_map (λ j. j.room) saved.journal) (map.len again.site.pages)
+      pub fresh : IfSome saved.journal (λ j. saved.unsaved ≡ no_lines j.room)
+      pub made : all_made begin.media (store_of begin) done ≡ Some (store_of saved.hub.1)
+      pub media : saved.hub.1.media ≡ begin.media
+      pub apart : IsApart begin.site begin.media → IsApart saved.hub.1.site saved.hub.1.media

@@ -11,6 +11,7 @@ use Rattle.doc_server_journal_records.specs.Records.{digest_behind, text_limit, 
 use Rattle.doc_server_reload.specs.KeptTurns.{IsOfCalls, IsRestored}
 use Rattle.doc_server_listen.specs.Counting.{count_in}
 use Rattle.doc_server_listen.specs.Edits.{Kept, has_room, longest_removal}
+use Rattle.doc_server_listen.specs.Sites.{IsSameSite}
 use Rattle.doc_server_network.specs.Crashes.{OfBoth}
 use Rattle.doc_server_network.specs.declared.saved_hub.SavedHub.{SavedHub}
 use Rattle.doc_server_script.specs.PageLines.{lines_of}
@@ -77,6 +78,14 @@ takes_all_removals (Some journal) w = takes_removals journal.room w
 abbrev pub HasFailed : {D : Type 0} → (D → Bool) → Option (Journal D) → Type 0
 HasFailed failed None = ⊥
 HasFailed failed (Some journal) = failed journal.device ≡ true
+
+-- ---- what stays
+
+-- A call changed neither the site, nor the journal, nor the lines that wait.
+pub record IsUnedited {D R : Type 0} (old new : SavedHub D R) : Type 0 where
+  pub site : IsSameSite old.hub.1 new.hub.1
+  pub journal : new.journal ≡ old.journal
+  pub unsaved : new.unsaved ≡ old.unsaved
 
 -- ---- what is saved
 

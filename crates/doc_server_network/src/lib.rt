@@ -9,6 +9,8 @@ pub mod came;
 pub mod follow_fault;
 pub mod guest;
 pub mod handed;
+pub mod laws;
+pub mod lead;
 mod line;
 pub mod memory_network;
 pub mod mio_network;
@@ -24,3 +26,5 @@ pub mod script;
 pub mod told;
 pub mod watch;
 pub mod watched;
+
+pub use doc_server_reload::beside;

@@ -29,7 +29,7 @@ pub enum ReloadFault {
     /// It is refused.
     #[error("{0}")]
     Refused(Refusal),
-    /// The server ends: the journal's device has failed, or memory was lacking, or a stamp, where some of the edits were made.
+    /// The server ends: the journal's device has failed.
     #[error("{0}")]
     Ends(TurnFault),
 }

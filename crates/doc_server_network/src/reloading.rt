@@ -1,35 +1,26 @@
-//! The steps of a reload: the journal's records are read anew and made again on other pages beside, and the hub is led there.
+//! What a reload leads to: the journal's records are read anew and made again on other pages beside.
 
-ghost use Rattle.std.specs.Prelude.{◌≡◌, ◌≤◌, ◌+◌, List as Seq, ℕ, Some, true, IfErr, IfOk, IfSome, OnOk};
+ghost use Rattle.std.specs.Prelude.{◌≡◌, ◌≤◌, ◌+◌, List as Seq, ℕ, true, IfErr, IfOk, IfSome};
 ghost use Rattle.std.specs.FinMap as map;
-ghost use Rattle.doc_hub.specs.Worlds.{store_of};
 ghost use Rattle.doc_server_journal.specs.Devices.{LeavesOnly};
 ghost use Rattle.doc_server_journal.specs.Journals.{IsOpen};
 ghost use Rattle.doc_server_network.specs.Crashes.{OfBoth};
 ghost use Rattle.doc_server_network.specs.Reloads.{AreTexts, IfCannotWrite, IfRefused, IsJustRead, IsOfStart, IsStoppedBy, IsUnread};
 ghost use Rattle.doc_server_network.specs.Reloads.{RemovalsFit, UnlessEnds, has_room_for, is_counted};
 ghost use Rattle.doc_server_network.specs.Saved.{HasFailed};
-ghost use Rattle.doc_server_reload.specs.Leading.{LeadsByEdits};
-ghost use Rattle.doc_server_reload.specs.Leads.{led};
-ghost use Rattle.doc_server_restore.specs.Restores.{all_made};
 ghost use Rattle.doc_store_readers.specs.Sites.{IsSite};
 
 use crate::reload_fault::{Refusal, ReloadFault};
 use doc_hub::hub::Hub;
 use doc_page::renderer::Renderer;
 use doc_page_parts::bytes::Bytes;
-use doc_page_parts::failure::Memory;
 use doc_page_parts::heap::{Heap, Vec};
 use doc_page_parts::list::List;
 use doc_server_journal::device::Device;
 use doc_server_journal::journal::Journal;
 use doc_server_reload::anew::texts_of_journal;
 use doc_server_reload::beside::restored_beside;
-use doc_server_reload::lead::lead;
-use doc_server_reload::leading::lead_hub;
-use doc_server_settling::fault::TurnFault;
 use doc_server_settling::reserve::has_room_for_removals;
-use doc_store::site_edit::SiteEdit;
 use doc_store::store::Store;
 
 /// The texts of the records of an open journal, read anew from its file; without a journal there are none.
@@ -111,31 +102,5 @@ fn is_counted(again: Option<u64>, config: Option<u64>, hub: Option<u64>) -> bool
     match (again, config, hub) {
         (Some(again), Some(config), Some(hub)) => again.saturating_sub(config) <= hub,
         _ => false,
-    }
-}
-
-/// Leads a hub to the site of a store, and answers by which edits. Where memory is lacking before the first of them it is refused; behind
-/// that the server ends.
-pub fn lead_there<R: Renderer + Drop>(
-    heap: Heap,
-    hub: &mut Hub<R>,
-    again: &Store,
-) -> Result<List<SiteEdit>, ReloadFault>
-    ensures edits { IfOk result (λ edits. edits ≡ led hub.old.1.site again.now.site) }
-    ensures leads { LeadsByEdits (R.page hub.old.0) (led hub.old.1.site again.now.site)
-        hub.old.1 hub.new.1 }
-    ensures made { OnOk result (all_made hub.old.1.media (store_of hub.old.1)
-        (led hub.old.1.site again.now.site) ≡ Some (store_of hub.new.1)) }
-    ensures refused { IfRefused result (λ refusal.
-        (refusal ≡ Refusal.Memory) × (hub.new ≡ hub.old)) }
-    ensures ends { IfErr result (λ fault.
-        fault ≡ ReloadFault.Ends TurnFault.CannotWrite → ⊥) }
-    ensures same { R.page hub.new.0 ≡ R.page hub.old.0 }
-{
-    let edits = lead(heap, hub.store(), again)?;
-    match lead_hub(hub, edits.get()) {
-        Ok(true) => Ok(edits),
-        Ok(false) => Err(ReloadFault::Ends(TurnFault::Memory)),
-        Err(Memory) => Err(ReloadFault::Ends(TurnFault::Memory)),
     }
 }

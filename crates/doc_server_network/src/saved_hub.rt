@@ -1,32 +1,25 @@
 //! A hub, the journal of its edits, and the lines of those that aren't in it yet.
 
-ghost use Rattle.std.specs.Prelude.{◌≡◌, List, ℕ, false, true, None, Some, Ok, Err, IfOk, IfErr, IsErrOf, IfSome, OnErr, OnOk, option_copied, option_map};
+ghost use Rattle.std.specs.Prelude.{◌≡◌, List, ℕ, false, true, None, Some, Ok, IfOk, IfErr, IsErrOf, IfSome, OnErr, OnOk, option_copied, option_map};
 ghost use Rattle.std.specs.FinMap as map;
 ghost use Rattle.doc_hub.specs.Runs.{Happens};
-ghost use Rattle.doc_hub.specs.Worlds.{IsApart, World, store_of, with_store};
+ghost use Rattle.doc_hub.specs.Worlds.{IsApart, World};
 ghost use Rattle.doc_hub_events.specs.Events.{disconnect_on, push_on, step_on};
 ghost use Rattle.doc_hub_events.specs.declared.event.Event.TheVariants as events;
 ghost use Rattle.doc_hub_events.specs.declared.event.ReaderEdit.TheVariants as reader_edits;
 ghost use Rattle.doc_server_journal.specs.Journals.{IsOpen};
 ghost use Rattle.doc_server_reload.specs.KeptTurns.{IsOfCalls, IsRestored, TurnIsRestored, TurnStaysOfCalls};
 ghost use Rattle.doc_server_network.specs.Crashes.{CrashesLeave, OfBoth, Restores, RestoresEither, StaleIsBehind};
-ghost use Rattle.doc_server_network.specs.Reloads.{IfCannotWrite, IfRefused, IsRefusedFor, IsRestarted, Reloads, UnlessEnds};
-ghost use Rattle.doc_server_network.specs.Reloads.{count_of_puts, count_of_removals};
-ghost use Rattle.doc_server_network.specs.Saved.{HasAll, HasFailed, IsAllSaved, IsReady, IsSaved, IsSettled, StaysSaved, TakesByRoom, WereWritten, has_grown, may_step, no_lines, takes_all_removals};
+ghost use Rattle.doc_server_network.specs.Saved.{HasAll, HasFailed, IsAllSaved, IsReady, IsSaved, IsSettled, IsUnedited, StaysSaved, TakesByRoom, WereWritten, has_grown, may_step, no_lines, takes_all_removals};
 ghost use Rattle.doc_server_listen.specs.Counting.{count_in};
-ghost use Rattle.doc_server_reload.specs.Laws.{WhatIsMadeGivesTheSite};
-ghost use Rattle.doc_server_reload.specs.Leads.{led};
-ghost use Rattle.doc_server_reload.specs.ReplyLaws.{SiteEditsLeaveTheRest};
-ghost use Rattle.doc_server_reload.specs.RestoredLaws.{RestoredSitesAreOfCalls, WhatIsLedIsRestored, pages_alone};
+ghost use Rattle.doc_server_listen.specs.OnlyReads.{StepOnlyReads};
 ghost use Rattle.doc_server_settling.specs.Reserves.{HasRoomToRemove};
 ghost use Rattle.doc_store.specs.Store.{StoreState};
 
 mod following;
+mod reloading;
 
 use crate::permit::Permit;
-use crate::reload_fault::ReloadFault;
-use crate::reloaded::Reloaded;
-use crate::reloading::{lead_there, pages_of_start, texts_anew};
 use doc_hub::event::{ConnId, Step};
 use doc_hub::hub::Hub;
 use doc_hub::refusal::{ConnectError, PushError, StepError};
@@ -36,14 +29,12 @@ use doc_page_parts::heap::Heap;
 use doc_server_journal::device::Device;
 use doc_server_journal::journal::{Journal, RECORD_BESIDE};
 use doc_server_listen::edit_lines::{EditLines, step_and_keep};
-use doc_server_reload::laws::{
-    a_turn_is_restored, a_turn_leaves_a_site_of_calls, edits_of_the_site_leave_the_rest,
-    what_is_led_is_restored, what_is_made_gives_the_site, what_is_restored_is_of_calls,
-};
+use doc_server_listen::laws::steps_that_read_leave_the_site;
+use doc_server_listen::only_reads::only_reads;
+use doc_server_reload::laws::{a_turn_is_restored, a_turn_leaves_a_site_of_calls};
 use doc_server_settling::fault::TurnFault;
 use doc_server_settling::reserve::{RESERVE, has_room_to_remove, keep_reserve};
 use doc_store::readers::Readers;
-use doc_store::store::Store;
 
 /// A hub, the journal of its edits, where there is one, and the lines of those that aren't in it yet. No step can be made past these
 /// lines.
@@ -142,7 +133,9 @@ impl<D: Device, R: Renderer + Drop> SavedHub<D, R> {
         ensures journal { self.new.journal ≡ self.old.journal }
         ensures ready { IsReady D.seen D.may_leave D.failed D.stale self.old
             → IsReady D.seen D.may_leave D.failed D.stale self.new }
+        ensures rests { StepOnlyReads self.old.hub.1 id.0 → IsUnedited self.old self.new }
     {
+        steps_that_read_leave_the_site();
         let Some(_) = &self.journal else {
             return self.hub.step(id);
         };
@@ -185,6 +178,16 @@ impl<D: Device, R: Renderer + Drop> SavedHub<D, R> {
             ≡ option_map (λ c. c.unread) (map.get self.now.hub.1.connections id.0) }
     {
         self.hub.unread(id)
+    }
+
+    /// Whether the next step of a connection is of a request that only reads, or of none. `false` where memory was lacking to look.
+    pub fn only_reads(&self, heap: Heap, id: ConnId) -> bool
+        ensures { result ≡ true → StepOnlyReads self.now.hub.1 id.0 }
+    {
+        match self.hub.unread(id) {
+            Some(unread) => only_reads(heap, unread),
+            None => true,
+        }
     }
 
     /// Whether owners' puts are taken.
@@ -343,46 +346,6 @@ impl<D: Device, R: Renderer + Drop> SavedHub<D, R> {
         Ok(has_grown)
     }
 
-    /// Has the hub's site be the one that a start over these pages would serve: the journal's records are read anew, their edits are made
-    /// on the pages beside, and the hub is led there. A server calls it between turns. Where it is refused all is as it was; after `Ends`
-    /// the server ends, which it does where memory is lacking between two edits, too.
-    pub fn reload(&mut self, heap: Heap, config: Store) -> Result<Reloaded, ReloadFault>
-        requires ready { IsReady D.seen D.may_leave D.failed D.stale self.old }
-        requires all { IsAllSaved self.old }
-        ensures ready { UnlessEnds result (IsReady D.seen D.may_leave D.failed D.stale self.new) }
-        ensures all { UnlessEnds result (IsAllSaved self.new) }
-        ensures settled { (before : StoreState)
-            → IsSettled D.seen D.may_leave D.failed D.stale before self.old
-            → IsOfCalls config.site → OnOk result
-            (IsSettled D.seen D.may_leave D.failed D.stale (pages_alone config) self.new) }
-        ensures restarted { IfOk result (λ told. IsRestarted D.seen D.may_leave D.failed D.stale
-            config self.new.journal self.new.hub.1 told.records) }
-        ensures counts { IfOk result (λ told.
-            (told.put ≡ count_of_puts (led self.old.hub.1.site self.new.hub.1.site))
-            × (told.removed ≡ count_of_removals (led self.old.hub.1.site self.new.hub.1.site))) }
-        ensures leads { Reloads config (R.page self.old.hub.0) self.old.hub.1 self.new.hub.1 }
-        ensures others { self.new.hub.1 ≡ with_store self.old.hub.1 (store_of self.new.hub.1) }
-        ensures refused { IfRefused result (λ refusal. (self.new.hub ≡ self.old.hub)
-            × IsRefusedFor D.seen D.may_leave D.failed D.stale config self.old.hub.1
-            self.new.journal refusal) }
-        ensures kept { IfRefused result
-            (λ _. StaysSaved D.seen D.may_leave D.failed D.stale self.old self.new) }
-        ensures failed { IfCannotWrite result (HasFailed D.failed self.new.journal) }
-        ensures same { R.page self.new.hub.0 ≡ R.page self.old.hub.0 }
-        ensures any_moment { (before : StoreState) (begin : World)
-            → IsSaved D.seen D.may_leave D.failed D.stale before begin self.old
-            → CrashesLeave D.seen D.moment D.left_since
-            (Restores before begin) self.old.journal self.new.journal }
-    {
-        reloads_are_restored();
-        let texts = texts_anew(heap, &mut self.journal)?;
-        let records = texts.get();
-        let again = pages_of_start(heap, &self.hub, self.room(), config, records)?;
-        let edits = lead_there(heap, &mut self.hub, &again)?;
-        self.unsaved = lines_where(heap, &self.journal);
-        Ok(Reloaded::by(edits.get(), records.len()))
-    }
-
     /// The leave to hand bytes over, where all edits are on the device, or there is no journal at all.
     pub fn permit(&self) -> Permit<'_>
         requires { IsAllSaved self.now }
@@ -399,30 +362,6 @@ fn turns_are_restored()
 {
     a_turn_is_restored();
     a_turn_leaves_a_site_of_calls();
-}
-
-/// What reloads leave is restored by a start, and is as calls make it. These are laws, and this does nothing but say them.
-fn reloads_are_restored()
-    ensures restored { WhatIsLedIsRestored }
-    ensures of_calls { RestoredSitesAreOfCalls }
-    ensures made { WhatIsMadeGivesTheSite }
-    ensures rest { SiteEditsLeaveTheRest }
-{
-    what_is_led_is_restored();
-    what_is_restored_is_of_calls();
-    what_is_made_gives_the_site();
-    edits_of_the_site_leave_the_rest();
-}
-
-/// No lines yet, for the next record of a journal, where there is one.
-fn lines_where<D: Device>(heap: Heap, journal: &Option<Journal<D>>) -> EditLines
-    ensures all { HasAll journal.now result }
-    ensures none { IfSome journal.now (λ j. result ≡ no_lines j.room) }
-{
-    match journal {
-        Some(journal) => lines_for(heap, journal),
-        None => EditLines::dropped(),
-    }
 }
 
 /// No lines yet, for the next record of a journal.

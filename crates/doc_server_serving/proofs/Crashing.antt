@@ -14,7 +14,7 @@ use Rattle.doc_server_network.specs.Crashes.{CrashesLeave, Restores, RestoresEit
 use Rattle.doc_server_network.specs.Saved.{IsSavedIn}
 use Rattle.doc_store.specs.Store.{StoreState}
 use Rattle.doc_server_serving.specs.Crashing.{AreKnown, RestoresFront, RestoresFrontBy}
-use Rattle.doc_server_serving.specs.Sites.{IsSameSite}
+use Rattle.doc_server_listen.specs.Sites.{IsSameSite}
 use Rattle.doc_server_serving.proofs.Sites.{restored_too, same_back, same_site}
 
 -- ---- sites

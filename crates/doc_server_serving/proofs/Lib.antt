@@ -27,6 +27,7 @@ mod Sweeping
 mod TableServing
 mod TakeSteps
 mod TurnSteps
+mod Unedited
 mod Turning
 pub mod Tables
 mod Visits

@@ -4,11 +4,11 @@ use Rattle.std.specs.Prelude.{Option}
 use Rattle.doc_hub_answers.specs.Replies.{Renders}
 use Rattle.doc_hub.specs.Worlds.{World}
 use Rattle.doc_server_serving.specs.Invariants.{GoesOn, GoesOnWith}
-use Rattle.doc_server_serving.specs.Leading.{IsOfPeers, IsOfServer, LeadsQuietly, LeadsQuietlyBy, StayAnswered}
+use Rattle.doc_server_serving.specs.Leading.{IsOfPeers, IsOfServer, LeadsQuietly, StayAnswered}
 use Rattle.doc_server_serving.specs.Wirings.{Table}
 use Rattle.doc_server_serving.specs.declared.given.Given.{Given}
 use Rattle.doc_server_serving.proofs.Accepting.{goes_silently}
-use Rattle.doc_server_serving.proofs.Going.{goes_on, goes_unheard, goes_wider}
+use Rattle.doc_server_serving.proofs.Going.{goes_on, goes_wider}
 use Rattle.doc_server_serving.proofs.Leading.{given_serve, peers_serve}
 
 module _ {N R : Type 0} (page : R → Renders) (came gone : N → ℕ → Option (List ℕ)) (wakes is_free : N → ℕ → Type 0) where
@@ -32,12 +32,3 @@ module _ {N R : Type 0} (page : R → Renders) (came gone : N → ℕ → Option
       → GoesOnWith page came gone wakes is_free answered old new n m t u
   turned answered old new n m t u a =
       goes_wider page came gone wakes is_free IsOfPeers (IsOfServer answered) old new n m t u (peers_serve answered) a
-
-  -- and one with them
-  abbrev pub turned_with : (answered : Option Given → Type 0) (old mid new : R × World) (n m : N) (t u : Table)
-      → GoesOn page came gone wakes is_free old mid n m t u → page new.0 ≡ page mid.0
-      → LeadsQuietlyBy (IsOfServer answered) (page mid.0) mid.1 new.1 → new.1.given ≡ mid.1.given
-      → GoesOnWith page came gone wakes is_free answered old new n m t u
-  turned_with answered old mid new n m t u a same quiet given =
-      goes_on page came gone wakes is_free (IsOfServer answered) old mid new n m m t u u (turned answered old mid n m t u a)
-      (goes_unheard page came gone wakes is_free (IsOfServer answered) mid new m u same quiet given)

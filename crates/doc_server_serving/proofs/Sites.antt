@@ -19,17 +19,22 @@ use Rattle.doc_server_network.specs.Readers.{ReaderError, ReaderTable}
 use Rattle.doc_server_network.specs.Saved.{HasAll, IsAllSaved, IsSavedIn, IsSettled, StaysSaved, TakesByRoom}
 use Rattle.doc_server_network.specs.declared.saved_hub.SavedHub.{SavedHub}
 use Rattle.doc_store.specs.Store.{StoreState}
-use Rattle.doc_server_serving.specs.Sites.{IsSameSite}
+use Rattle.doc_server_listen.specs.Sites.{IsSameSite}
 use Rattle.doc_server_serving.proofs.GivenNumbers.{connected_if}
 
 pub same_site : (w : World) → IsSameSite w w
-same_site w = record { site = refl; media = refl; puts = refl }
+same_site w = record { site = refl; media = refl; puts = refl; readers = refl }
 
 pub same_join : (w v u : World) → IsSameSite w v → IsSameSite v u → IsSameSite w u
-same_join w v u a b = record { site = b.site ∙ a.site; media = b.media ∙ a.media; puts = b.puts ∙ a.puts }
+same_join w v u a b = record {
+  site = b.site ∙ a.site;
+  media = b.media ∙ a.media;
+  puts = b.puts ∙ a.puts;
+  readers = b.readers ∙ a.readers;
+}
 
 pub same_back : (w v : World) → IsSameSite w v → IsSameSite v w
-same_back w v a = record { site = sym a.site; media = sym a.media; puts = sym a.puts }
+same_back w v a = record { site = sym a.site; media = sym a.media; puts = sym a.puts; readers = sym a.readers }
 
 pub same_by : (w v : World) → v ≡ w → IsSameSite w v
 same_by w v is = subst (IsSameSite w) (sym is) (same_site w)
@@ -42,7 +47,7 @@ of_given memory given w v (Ok x) gives same = subst (λ g. IsSameSite w g.0) giv
 of_given memory given w v (Err e) gives same = subst (IsSameSite w) (sym gives.1) (same_site w)
 
 connected_same : (w : World) (t : Bool) → IsSameSite w (connected_if w t).0
-connected_same w true = record { site = refl; media = refl; puts = refl }
+connected_same w true = record { site = refl; media = refl; puts = refl; readers = refl }
 connected_same w false = same_site w
 
 pub connects_same : (render : Renders) (w v : World) (said : Result ConnId ConnectError) → Happens render w events.Connect v said
@@ -53,19 +58,15 @@ connects_same render w v said happens =
 pub disconnects_same : (render : Renders) (w v : World) (id : ConnId) (said : Bool) → Happens render w (disconnect_on id) v said
     → IsSameSite w v
 disconnects_same render w v id said happens =
-    subst (λ (g : World × Bool). IsSameSite w g.0) happens (record { site = refl; media = refl; puts = refl })
+    subst (λ (g : World × Bool). IsSameSite w g.0) happens (record { site = refl; media = refl; puts = refl; readers = refl })
 
 -- whether puts are taken is looked at
 pub takes_same : {D : Type 0} (render : Renders) (o : Option (Journal D)) (w v : World) → TakesByRoom render o w v → IsSameSite w v
 takes_same render None w v is = same_by w v is
-takes_same render (Some journal) w v happens = subst (IsSameSite w) (sym happens) (record { site = refl; media = refl; puts = refl })
+takes_same render (Some journal) w v happens =
+    subst (IsSameSite w) (sym happens) (record { site = refl; media = refl; puts = refl; readers = refl })
 
--- the readers are others
-pub readers_same : (render : Renders) (w v : World) (readers : ReaderTable)
-    → Happens render w (events.Reader (reader_edits.All readers)) v (Ok tt) → IsSameSite w v
-readers_same render w v readers happens =
-    subst (λ (g : World × Result (Unit {0}) ReaderError). IsSameSite w g.0) happens (record { site = refl; media = refl; puts = refl })
-
+-- the readers are those that were set
 pub readers_are : (render : Renders) (w v : World) (readers : ReaderTable)
     → Happens render w (events.Reader (reader_edits.All readers)) v (Ok tt) → v.readers ≡ readers
 readers_are render w v readers happens = subst (λ (g : World × Result (Unit {0}) ReaderError). g.0.readers ≡ readers) happens refl

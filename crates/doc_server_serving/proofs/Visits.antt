@@ -1,8 +1,8 @@
 -- Clients that are either heard or answered.
-use Rattle.std.proofs.Common.{◌≡◌, ◌≤◌, ◌++◌, ℕ, List, [], ◌∷◌, Bool, true, length, inl, inr, refl, sym, ap, ◌∙◌, subst, arith, append-nil, append_assoc}
+use Rattle.std.proofs.Common.{◌≡◌, ◌≤◌, ◌++◌, ℕ, List, [], ◌∷◌, length, inl, inr, refl, sym, ap, ◌∙◌, subst, arith, append-nil, append_assoc}
 use Rattle.std.proofs.lemmas.List.Elements.{All-nil}
 use Rattle.doc_hub.specs.Runs.{Happened, sent_on}
-use Rattle.doc_hub.specs.RunParts.{AreOf, pushed_on, served_by}
+use Rattle.doc_hub.specs.RunParts.{served_by}
 use Rattle.doc_hub_answers.specs.Replies.{Renders}
 use Rattle.doc_hub.specs.Worlds.{World}
 use Rattle.std.specs.Prelude.{Option, Some}

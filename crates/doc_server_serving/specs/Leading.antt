@@ -1,5 +1,5 @@
 -- What serving does to a hub.
-use Rattle.std.specs.Prelude.{◌≡◌, ⊤, ℕ, List, [], All, Option, Some}
+use Rattle.std.specs.Prelude.{◌≡◌, ⊤, ℕ, List, [], All, Contains, Option, Some}
 use Rattle.doc_hub_answers.specs.Replies.{Renders}
 use Rattle.doc_hub.specs.Runs.{Happened, Runs, sent_on}
 use Rattle.doc_hub.specs.RunParts.{pushed_on}
@@ -11,6 +11,7 @@ use Rattle.doc_server_network.specs.Reloads.{IsOnTheWay}
 use Rattle.doc_server_serving.specs.declared.given.Configuration.{Configuration}
 use Rattle.doc_server_serving.specs.declared.given.Given.{Given}
 use Rattle.doc_server_serving.specs.declared.given.Given.TheVariants as givens
+use Rattle.doc_store.specs.declared.site_edit.SiteEdit.{SiteEdit}
 
 -- a connect, a push, a step or a disconnect, or whether puts are taken
 abbrev pub IsOfPeers : Event → Type 0
@@ -41,6 +42,17 @@ IsOfServer answered (events.Reader edit) =
     (given : Given) × answered (Some given) × IsOfGiven given (events.Reader edit)
 IsOfServer answered (events.Site edit) = (given : Given) × answered (Some given) × IsOfGiven given (events.Site edit)
 IsOfServer answered event = IsOfPeers event
+
+-- an event of peers, or one of some edits of the site
+abbrev pub IsOfLead : List SiteEdit → Event → Type 0
+IsOfLead edits (events.Site edit) = Contains edits edit
+IsOfLead edits event = IsOfPeers event
+
+-- an event of peers, or the readers of a configuration, or an edit on the way to it
+abbrev pub IsOfReload : Configuration → Event → Type 0
+IsOfReload given (events.Reader edit) = IsOfConfiguration given (events.Reader edit)
+IsOfReload given (events.Site edit) = IsOfConfiguration given (events.Site edit)
+IsOfReload given event = IsOfPeers event
 
 -- a run of such events alone leads from one world to the other
 pub record LeadsBy (Own : Event → Type 0) (render : Renders) (w v : World) : Type 0 where

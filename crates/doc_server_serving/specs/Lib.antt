@@ -8,10 +8,10 @@ pub mod Leading
 pub mod Parts
 pub mod Replies
 pub mod Rooms
+pub mod Scopes
 pub mod Servings
 pub mod Sharing
 pub mod Silences
-pub mod Sites
 pub mod Strangers
 pub mod Sweeps
 pub mod Tellings

@@ -9,7 +9,7 @@ ghost use Rattle.doc_server_network.specs.Saved.{IsReady, StaysSaved};
 ghost use Rattle.doc_server_serving.specs.Hearing.{WaitOn};
 ghost use Rattle.doc_server_serving.specs.Invariants.{AreFree, GoesOn};
 ghost use Rattle.doc_server_serving.specs.Parts.{NoMore};
-ghost use Rattle.doc_server_serving.specs.Sites.{IsSameSite};
+ghost use Rattle.doc_server_listen.specs.Sites.{IsSameSite};
 
 use crate::peers::Peers;
 use crate::telling::News;

@@ -6,7 +6,7 @@ ghost use Rattle.doc_server_network.specs.Networks.{Recalls, Stays};
 ghost use Rattle.doc_server_network.specs.Saved.{IsReady, StaysSaved};
 ghost use Rattle.doc_server_serving.specs.Hearing.{WaitOn};
 ghost use Rattle.doc_server_serving.specs.Parts.{NoMore};
-ghost use Rattle.doc_server_serving.specs.Sites.{IsSameSite};
+ghost use Rattle.doc_server_listen.specs.Sites.{IsSameSite};
 ghost use Rattle.doc_server_serving.specs.Turns.{Turns};
 ghost use Rattle.doc_server_serving.specs.Wirings.{AreWoken};
 

@@ -14,6 +14,7 @@ pub mod net;
 pub mod next_turn;
 pub mod peers;
 pub mod room;
+pub mod scope;
 mod sending;
 pub mod server;
 mod silence;

@@ -4,9 +4,10 @@ ghost use Rattle.std.specs.Prelude.{◌≡◌, ◌==◌, ◌∷◌, ◌++◌, �
 ghost use Rattle.std.specs.FinMap as map;
 ghost use Rattle.std.specs.List.{list_any};
 ghost use Rattle.doc_server_network.specs.Networks.{Recalls, Rests, Stays};
-ghost use Rattle.doc_server_network.specs.Saved.{IsReady, StaysSaved};
+ghost use Rattle.doc_server_network.specs.Saved.{IsReady, IsUnedited, StaysSaved};
 ghost use Rattle.doc_server_serving.specs.Hearing.{HearsAll, SparesAll};
 ghost use Rattle.doc_server_serving.specs.Parts.{StayBut, is_over_at, numbers_of, takes_part, takes_part_at, turn_of};
+ghost use Rattle.doc_server_serving.specs.Scopes.{is_earlier, only_reads};
 ghost use Rattle.doc_server_serving.specs.Servings.{ServesAll};
 ghost use Rattle.doc_server_serving.specs.Sharing.{SharesTurn};
 ghost use Rattle.doc_server_serving.specs.Sweeps.{Sweeps, swept};
@@ -15,6 +16,7 @@ ghost use Rattle.doc_server_serving.specs.Wirings.{AreWoken, EndAll, EndsAt, Giv
 
 use crate::client::Client;
 use crate::limits::Limits;
+use crate::scope::Scope;
 use doc_page::renderer::Renderer;
 use doc_page_parts::heap::{BTreeMap, Heap, Vec};
 use doc_server_journal::device::Device;
@@ -146,18 +148,19 @@ impl Peers {
     /// what the steps may cost, and is left what they did.
     pub fn take_in_all<N: Network, D: Device, R: Renderer + Drop>(
         &mut self,
+        heap: Heap,
         ready: &[u64],
         net: &mut N,
         saved: &mut SavedHub<D, R>,
         piece: &mut [u8],
         share: &mut Share,
-        follows: bool,
+        scope: Scope,
     )
         ensures serves { (s : ServesAll (R.page saved.old.hub.0) saved.old.hub.1 saved.new.hub.1 ready.now
             (N.came net.old) (N.came net.new) (N.has_ended net.new) self.old self.new)
             × SharesTurn ready.now s.run share.old share.new
             × HearsAll ready.now s.run self.old self.new
-            × (follows ≡ true → AreEither ready.now s.run) }
+            × (is_earlier scope ≡ true → AreEither ready.now s.run) }
         ensures others { StayBut ready.now self.old self.new }
         ensures gone { Rests (N.gone net.old) (N.gone net.new) }
         ensures woken { AreWoken (N.wakes net.old) self.old → AreWoken (N.wakes net.new) self.new }
@@ -169,28 +172,30 @@ impl Peers {
         ensures ready { IsReady D.seen D.may_leave D.failed D.stale saved.old
             → IsReady D.seen D.may_leave D.failed D.stale saved.new }
         ensures journal { saved.new.journal ≡ saved.old.journal }
+        ensures unedited { only_reads scope ≡ true → IsUnedited saved.old saved.new }
         ensures room { length piece.new ≡ length piece.old }
     {
         'numbers: for id in ready {
-            self.take_in_at(*id, net, saved, piece, share, follows);
+            self.take_in_at(heap, *id, net, saved, piece, share, scope);
         }
     }
 
     /// Reads and steps the client of this number, where there is one.
     fn take_in_at<N: Network, D: Device, R: Renderer + Drop>(
         &mut self,
+        heap: Heap,
         id: u64,
         net: &mut N,
         saved: &mut SavedHub<D, R>,
         piece: &mut [u8],
         share: &mut Share,
-        follows: bool,
+        scope: Scope,
     )
         ensures serves { (s : ServesAll (R.page saved.old.hub.0) saved.old.hub.1 saved.new.hub.1 (id ∷ [])
             (N.came net.old) (N.came net.new) (N.has_ended net.new) self.old self.new)
             × SharesTurn (id ∷ []) s.run share.old share.new
             × HearsAll (id ∷ []) s.run self.old self.new
-            × (follows ≡ true → AreEither (id ∷ []) s.run) }
+            × (is_earlier scope ≡ true → AreEither (id ∷ []) s.run) }
         ensures others { (k : ℕ) → (k == id) ≡ false → map.get self.new k ≡ map.get self.old k }
         ensures gone { Rests (N.gone net.old) (N.gone net.new) }
         ensures woken { AreWoken (N.wakes net.old) self.old → AreWoken (N.wakes net.new) self.new }
@@ -202,13 +207,14 @@ impl Peers {
         ensures ready { IsReady D.seen D.may_leave D.failed D.stale saved.old
             → IsReady D.seen D.may_leave D.failed D.stale saved.new }
         ensures journal { saved.new.journal ≡ saved.old.journal }
+        ensures unedited { only_reads scope ≡ true → IsUnedited saved.old saved.new }
         ensures room { length piece.new ≡ length piece.old }
     {
         share.begin();
         let Some(client) = self.clients.get_mut(&id) else {
             return;
         };
-        client.take_in(id, net, saved, piece, share, follows);
+        client.take_in(heap, id, net, saved, piece, share, scope);
     }
 
     /// Ends the part of the clients of these numbers in a turn.

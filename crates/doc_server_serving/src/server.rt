@@ -7,7 +7,7 @@ ghost use Rattle.doc_hub.specs.Worlds.{World};
 ghost use Rattle.doc_server_network.specs.Crashes.{CrashesLeave, Restores, RestoresEither};
 ghost use Rattle.doc_server_network.specs.KeptTurns.{IsOfCalls};
 ghost use Rattle.doc_server_network.specs.Networks.{Recalls, WasAsked, WasWaitedFor, end_of_input, input_came};
-ghost use Rattle.doc_server_network.specs.Saved.{IsAllSaved, IsReady, IsSaved, IsSettled, StaysSaved};
+ghost use Rattle.doc_server_network.specs.Saved.{IsAllSaved, IsReady, IsSaved, IsSettled, IsUnedited, StaysSaved};
 ghost use Rattle.doc_server_serving.specs.Crashing.{AreKnown, RestoresFront, RestoresFrontBy};
 ghost use Rattle.doc_server_serving.specs.Doors.{is_open};
 ghost use Rattle.doc_server_serving.specs.Forces.{AreAllOfCalls, IsInForce, IsOutcome, IsSettledInForce, IsTaken, config_behind};
@@ -15,21 +15,24 @@ ghost use Rattle.doc_server_serving.specs.Hearing.{HeardAt, IsMinded, WaitOn};
 ghost use Rattle.doc_server_serving.specs.Invariants.{AreFree, GoesOn, GoesOnWith, HasServedNobody, IsServed};
 ghost use Rattle.doc_server_serving.specs.Leading.{IsOfGiven, IsOfServer, LeadsQuietly, LeadsQuietlyBy, LeadsWith, StayAnswered};
 ghost use Rattle.doc_server_serving.specs.Parts.{AreMinded, NoMore, takes_part_at, times_among, turn_of};
-ghost use Rattle.doc_server_serving.specs.Sites.{IsSameSite};
+ghost use Rattle.doc_server_listen.specs.Sites.{IsSameSite};
+ghost use Rattle.doc_server_serving.specs.Scopes.{only_reads};
 ghost use Rattle.doc_server_serving.specs.Wirings.{AreWoken, IsFedAt, SweptAll};
 ghost use Rattle.doc_server_serving.specs.declared.fault.ServeFault.TheVariants as faults;
 ghost use Rattle.doc_server_serving.specs.declared.given.Given.TheVariants as givens;
 ghost use Rattle.doc_store.specs.Store.{StoreState};
 
+mod reloading;
+
 use crate::door::Door;
 use crate::fault::ServeFault;
-use crate::given::{Configuration, Given};
 use crate::letting_go::let_go;
 use crate::limits::Limits;
 use crate::named_file::NamedFile;
 use crate::next_turn::NextTurn;
 use crate::peers::Peers;
 use crate::room::{growth, keep_room};
+use crate::scope::Scope;
 use crate::source::Source;
 use crate::telling::wake_told;
 use crate::turn::turn;
@@ -39,8 +42,6 @@ use doc_server_journal::clock::seconds_of;
 use doc_server_journal::device::Device;
 use doc_server_listen::share::Share;
 use doc_server_network::network::Network;
-use doc_server_network::reload_fault::{Refusal, ReloadFault};
-use doc_server_network::reloaded::Reloaded;
 use doc_server_network::saved_hub::SavedHub;
 use doc_server_settling::reserve::{RESERVE, SPARE};
 use std::alloc::AllocError;
@@ -200,27 +201,27 @@ impl Server {
             saved.old.journal saved.new.journal) }
     {
         let follows = source.follows();
-        if self.turn(rt, net, saved, next, follows)? {
+        let is_busy = source.is_busy();
+        next.expect(is_busy);
+        if self.turn(rt, net, saved, next, scope_of(follows))? {
             return Ok(true);
         }
         source.note(saved.pages(), saved.journal_bytes());
-        let has_input = next.hears_input();
-        if !is_asked(has_input, follows) {
+        let has_input = next.take_input();
+        if !is_asked(has_input, follows, is_busy) {
             return Ok(false);
         }
-        take_given(self.heap, source, saved, has_input)?;
-        Ok(false)
+        self.take_given(rt, net, saved, source, next, has_input)
     }
 
-    /// One turn. Where another server is followed, what comes in it is answered in the next. True: standard input has ended, and nobody is
-    /// accepted any more.
+    /// One turn, which answers so much of what has come. True: standard input has ended, and nobody is accepted any more.
     pub fn turn<N: Network, D: Device + NamedFile, R: Renderer + Drop, C: Clock>(
         &mut self,
         rt: &C,
         net: &mut N,
         saved: &mut SavedHub<D, R>,
         next: &mut NextTurn,
-        follows: bool,
+        scope: Scope,
     ) -> Result<bool, ServeFault>
         requires all { IsAllSaved saved.old }
         requires ready { IsReady D.seen D.may_leave D.failed D.stale saved.old }
@@ -235,6 +236,7 @@ impl Server {
             (map.get self.old.peers k) (map.get self.new.peers k))) }
         ensures most { self.new.door.most ≡ self.old.door.most }
         ensures waits { WasWaitedFor (N.made net.new) }
+        ensures calls { Recalls (N.made net.old) (N.made net.new) }
         ensures hears { IfOk result (λ has_ended. has_ended ≡ false
             → next.new.hears_input ≡ true → N.made net.new input_came) }
         ensures minds { IfOk result (λ has_ended. has_ended ≡ false
@@ -253,13 +255,14 @@ impl Server {
             → CrashesLeave D.seen D.moment D.left_since
             (RestoresEither config saved.old.hub.1 saved.new.hub.1)
             saved.old.journal saved.new.journal }
+        ensures unedited { only_reads scope ≡ true → IsUnedited saved.old saved.new }
     {
-        net.wait(self.longest_wait(next.goes_on(), follows))?;
+        net.wait(self.longest_wait(next.is_due(), scope))?;
         let now = time_of(rt, self.swept);
-        look(self.heap, &mut self.looked, saved, now)?;
+        look(self.heap, &mut self.looked, saved, now, scope)?;
         let news = wake_told(&mut self.peers, net);
         self.door.hear(&news);
-        self.serve_ready(rt, net, saved, next, follows)?;
+        self.serve_ready(rt, net, saved, next, scope)?;
         let ends = news.input_has_ended;
         if ends {
             return Ok(true);
@@ -270,14 +273,15 @@ impl Server {
     }
 
     /// How long the network is waited for: not at all where something is left to do.
-    fn longest_wait(&self, goes_on: bool, follows: bool) -> Duration {
-        if goes_on || self.door.is_open(&self.peers) {
+    fn longest_wait(&self, is_due: bool, scope: Scope) -> Duration {
+        if is_due || self.door.is_open(&self.peers) {
             return Duration::from_millis(0);
         }
-        if follows {
-            return Duration::from_millis(LOOK_WAIT);
+        match scope {
+            Scope::All => Duration::from_millis(WAIT),
+            Scope::Earlier => Duration::from_millis(LOOK_WAIT),
+            Scope::Reads => Duration::from_millis(0),
         }
-        Duration::from_millis(WAIT)
     }
 
     /// The turn of those that take part, each of them once, and behind its edits the room of the journal.
@@ -287,7 +291,7 @@ impl Server {
         net: &mut N,
         saved: &mut SavedHub<D, R>,
         next: &mut NextTurn,
-        follows: bool,
+        scope: Scope,
     ) -> Result<(), ServeFault>
         requires all { IsAllSaved saved.old }
         requires ready { IsReady D.seen D.may_leave D.failed D.stale saved.old }
@@ -318,6 +322,7 @@ impl Server {
             → CrashesLeave D.seen D.moment D.left_since
             (RestoresEither config saved.old.hub.1 saved.new.hub.1)
             saved.old.journal saved.new.journal }
+        ensures unedited { only_reads scope ≡ true → IsUnedited saved.old saved.new }
     {
         self.ready.clear();
         self.peers.collect(next.first(), &mut self.ready)?;
@@ -332,11 +337,11 @@ impl Server {
             &mut self.piece,
             &mut share,
             seconds_of(rt),
-            follows,
+            scope,
         )?;
         let first = number_at(self.ready.as_slice(), share.behind());
         next.serve(first, self.peers.goes_on(self.ready.as_slice()));
-        if saved.room() == room {
+        if keeps_room(saved, room, scope) {
             return Ok(());
         }
         keep_room(self.heap, saved, growth(saved.room()))?;
@@ -432,90 +437,17 @@ impl Server {
     }
 }
 
-/// Whether the source is asked behind a turn: where something has come on standard input, or it follows another server.
-fn is_asked(has_input: bool, follows: bool) -> bool
-    ensures { result ≡ (has_input || follows) }
-{
-    has_input || follows
+/// What a turn answers, by whether another server is followed.
+fn scope_of(follows: bool) -> Scope {
+    if follows { Scope::Earlier } else { Scope::All }
 }
 
-/// Has the hub go by what the source gives, where it gives anything, and tells it what came of a configuration.
-fn take_given<S: Source, D: Device, R: Renderer + Drop>(
-    heap: Heap,
-    source: &mut S,
-    saved: &mut SavedHub<D, R>,
-    has_input: bool,
-) -> Result<(), ServeFault>
-    requires all { IsAllSaved saved.old }
-    requires ready { IsReady D.seen D.may_leave D.failed D.stale saved.old }
-    ensures quiet { LeadsQuietlyBy (IsOfServer (S.answered source.new)) (R.page saved.old.hub.0)
-        saved.old.hub.1 saved.new.hub.1 }
-    ensures keeps { StayAnswered (S.answered source.old) (S.answered source.new) }
-    ensures follows { S.follows source.new ≡ S.follows source.old }
-    ensures takes { OnOk result (IsTaken D.seen D.may_leave D.failed D.stale
-        (S.answered source.new) (S.told source.new) saved.old.hub.1 saved.new.hub.1
-        saved.new.journal) }
-    ensures given { saved.new.hub.1.given ≡ saved.old.hub.1.given }
-    ensures same { R.page saved.new.hub.0 ≡ R.page saved.old.hub.0 }
-    ensures all { OnOk result (IsAllSaved saved.new) }
-    ensures ready { OnOk result (IsReady D.seen D.may_leave D.failed D.stale saved.new) }
-    ensures settled { (config : StoreState)
-        → IsSettled D.seen D.may_leave D.failed D.stale config saved.old
-        → AreAllOfCalls (S.answered source.new)
-        → OnOk result (IsSettledInForce D.seen D.may_leave D.failed D.stale
-        (S.answered source.new) config saved.new) }
-    ensures any_moment { (config : StoreState) (begin : World)
-        → IsSaved D.seen D.may_leave D.failed D.stale config begin saved.old
-        → CrashesLeave D.seen D.moment D.left_since
-        (Restores config begin) saved.old.journal saved.new.journal }
+/// Whether the source is asked behind a turn: where something has come on standard input, or it follows another server, or is about to
+/// answer.
+fn is_asked(has_input: bool, follows: bool, is_busy: bool) -> bool
+    ensures { result ≡ (has_input || follows || is_busy) }
 {
-    let given = source.hear(saved.media(), has_input)?;
-    match given {
-        Some(Given::Configuration(configuration)) => {
-            let outcome = reload(heap, saved, configuration)?;
-            source.tell(outcome);
-        }
-        Some(Given::Records(texts)) => saved.follow(heap, texts.get())?,
-        None => (),
-    }
-    Ok(())
-}
-
-/// Has the hub go by these pages and these readers, and answers what came of that: where it is refused all is as before.
-fn reload<D: Device, R: Renderer + Drop>(
-    heap: Heap,
-    saved: &mut SavedHub<D, R>,
-    configuration: Configuration,
-) -> Result<Result<Reloaded, Refusal>, ServeFault>
-    requires all { IsAllSaved saved.old }
-    requires ready { IsReady D.seen D.may_leave D.failed D.stale saved.old }
-    ensures quiet { LeadsQuietlyBy (IsOfGiven (givens.Configuration configuration)) (R.page saved.old.hub.0)
-        saved.old.hub.1 saved.new.hub.1 }
-    ensures outcome { IfOk result (λ outcome. IsOutcome D.seen D.may_leave D.failed D.stale
-        saved.old.hub.1 saved.new.hub.1 saved.new.journal configuration outcome) }
-    ensures given { saved.new.hub.1.given ≡ saved.old.hub.1.given }
-    ensures same { R.page saved.new.hub.0 ≡ R.page saved.old.hub.0 }
-    ensures all { OnOk result (IsAllSaved saved.new) }
-    ensures ready { OnOk result (IsReady D.seen D.may_leave D.failed D.stale saved.new) }
-    ensures settled { (config : StoreState)
-        → IsSettled D.seen D.may_leave D.failed D.stale config saved.old
-        → IsOfCalls configuration.pages.site → IfOk result (λ outcome.
-        IsSettled D.seen D.may_leave D.failed D.stale (config_behind config configuration outcome)
-        saved.new) }
-    ensures any_moment { (config : StoreState) (begin : World)
-        → IsSaved D.seen D.may_leave D.failed D.stale config begin saved.old
-        → CrashesLeave D.seen D.moment D.left_since
-        (Restores config begin) saved.old.journal saved.new.journal }
-{
-    let Configuration { readers, pages } = configuration;
-    match saved.reload(heap, pages) {
-        Ok(reloaded) => {
-            saved.set_readers(readers);
-            Ok(Ok(reloaded))
-        }
-        Err(ReloadFault::Refused(refusal)) => Ok(Err(refusal)),
-        Err(ReloadFault::Ends(fault)) => Err(ServeFault::from(fault)),
-    }
+    has_input || follows || is_busy
 }
 
 /// The time; where the clock can't be asked, this one, so that no time has passed.
@@ -534,13 +466,14 @@ fn is_found<D: Device + NamedFile, R: Renderer + Drop>(saved: &SavedHub<D, R>) -
     }
 }
 
-/// Looks from time to time whether the journal can be found again, and for its room. Where it can't be found, what is answered from now on
-/// would be lost.
+/// Looks from time to time whether the journal can be found again, and for its room, but not while edits wait. Where it can't be found, what
+/// is answered from now on would be lost.
 fn look<D: Device + NamedFile, R: Renderer + Drop>(
     heap: Heap,
     looked: &mut Instant,
     saved: &mut SavedHub<D, R>,
     now: Instant,
+    scope: Scope,
 ) -> Result<(), ServeFault>
     requires all { IsAllSaved saved.old }
     requires ready { IsReady D.seen D.may_leave D.failed D.stale saved.old }
@@ -556,8 +489,9 @@ fn look<D: Device + NamedFile, R: Renderer + Drop>(
         → CrashesLeave D.seen D.moment D.left_since
         (Restores config begin) saved.old.journal saved.new.journal }
     ensures site { IsSameSite saved.old.hub.1 saved.new.hub.1 }
+    ensures unedited { only_reads scope ≡ true → IsUnedited saved.old saved.new }
 {
-    if now.duration_since(*looked) < Duration::from_secs(LOOK) {
+    if !is_time(*looked, now, scope) {
         return Ok(());
     }
     *looked = now;
@@ -566,6 +500,30 @@ fn look<D: Device + NamedFile, R: Renderer + Drop>(
     }
     keep_room(heap, saved, RESERVE + SPARE)?;
     Ok(())
+}
+
+/// Whether it is time for a look behind the last one.
+fn is_time(looked: Instant, now: Instant, scope: Scope) -> bool
+    ensures { only_reads scope ≡ true → result ≡ false }
+{
+    if scope.only_reads() {
+        return false;
+    }
+    now.duration_since(looked) >= Duration::from_secs(LOOK)
+}
+
+/// Whether the journal has as much room as before the turn, as where edits waited in it.
+fn keeps_room<D: Device, R: Renderer + Drop>(
+    saved: &SavedHub<D, R>,
+    room: Option<usize>,
+    scope: Scope,
+) -> bool
+    ensures { only_reads scope ≡ true → result ≡ true }
+{
+    if scope.only_reads() {
+        return true;
+    }
+    saved.room() == room
 }
 
 /// The number at that place, or 0 where the list is shorter.

@@ -28,6 +28,9 @@ pub trait Source {
     fn follows(&self) -> bool
         ensures { result ≡ follows self.now };
 
+    /// Whether it is about to answer: then the network isn't waited for, and it is asked behind the next turn, too.
+    fn is_busy(&self) -> bool;
+
     /// What is served from now on, where something is asked for, or has come from the server that is followed, beside the media that are
     /// served. `has_input`: something has come on standard input, which is read here, once. After an `Err` the server ends.
     fn hear(&mut self, media: &Option<Media>, has_input: bool) -> Result<Option<Given>, FollowFault>

@@ -6,19 +6,23 @@ ghost use Rattle.doc_hub.specs.Worlds.{disconnected};
 ghost use Rattle.doc_hub_events.specs.Events.{disconnect_on};
 ghost use Rattle.doc_server_listen.specs.Costs.{CostsAtMost, IsWithin, next_cost};
 ghost use Rattle.doc_server_listen.specs.Edits.{AreQuiet};
+ghost use Rattle.doc_server_listen.specs.OnlyReads.{StepOnlyReads};
 ghost use Rattle.doc_server_network.specs.Networks.{Recalls, Rests, RestsBut, Stays, StaysBut};
-ghost use Rattle.doc_server_network.specs.Saved.{IsReady, StaysSaved, may_step};
+ghost use Rattle.doc_server_network.specs.Saved.{IsReady, IsUnedited, StaysSaved, may_step};
 ghost use Rattle.doc_server_serving.specs.Hearing.{Hears, IsReader, WasHeard};
 ghost use Rattle.doc_server_serving.specs.Replies.{most_pending};
+ghost use Rattle.doc_server_serving.specs.Scopes.{is_earlier, only_reads};
 ghost use Rattle.doc_server_serving.specs.Servings.{Answers, Serves};
 ghost use Rattle.doc_server_serving.specs.Strangers.{has_unread};
 ghost use Rattle.doc_server_serving.specs.Visits.{IsEither};
 
 use crate::client::Client;
+use crate::scope::Scope;
 use crate::stage::Stage;
 use doc_hub::event::{ConnId, Step};
 use doc_hub::refusal::StepError;
 use doc_page::renderer::Renderer;
+use doc_page_parts::heap::Heap;
 use doc_server_journal::device::Device;
 use doc_server_listen::cost::{LIST_COST, PAGE_COST, step_cost};
 use doc_server_listen::share::Share;
@@ -33,23 +37,24 @@ const MOST_STEPS: u32 = LIST_COST;
 const MOST_PENDING: usize = 262_144;
 
 impl Client {
-    /// Where nothing is pending, reads once, pushes and steps, as far as the share of the turn goes. The edits of these steps wait to be
-    /// settled, and so do the replies: nothing is handed over. Where another server is followed what was read is stepped in the next turn,
-    /// behind a look at what that server has written meanwhile.
+    /// Where nothing is pending, reads once, pushes and steps, as far as the share of the turn and what it answers go. The edits of these
+    /// steps wait to be settled, and so do the replies: nothing is handed over. Where another server is followed what was read is stepped
+    /// in the next turn, behind a look at what that server has written meanwhile.
     pub fn take_in<N: Network, D: Device, R: Renderer + Drop>(
         &mut self,
+        heap: Heap,
         id: u64,
         net: &mut N,
         saved: &mut SavedHub<D, R>,
         piece: &mut [u8],
         share: &mut Share,
-        follows: bool,
+        scope: Scope,
     )
         ensures serves { (s : Serves (R.page saved.old.hub.0) saved.old.hub.1 saved.new.hub.1 id
             (N.came net.old id) (N.came net.new id) (N.has_ended net.new id) self.old self.new)
             × IsWithin s.run share.old share.new × Hears id s.run self.old self.new
             × (IsReader self.old → WasHeard id s.run self.new)
-            × (follows ≡ true → IsEither id s.run) }
+            × (is_earlier scope ≡ true → IsEither id s.run) }
         ensures others { RestsBut id (N.came net.old) (N.came net.new) }
         ensures gone { Rests (N.gone net.old) (N.gone net.new) }
         ensures woken { (self.old.rests ≡ true → N.wakes net.old id)
@@ -63,23 +68,24 @@ impl Client {
         ensures ready { IsReady D.seen D.may_leave D.failed D.stale saved.old
             → IsReady D.seen D.may_leave D.failed D.stale saved.new }
         ensures journal { saved.new.journal ≡ saved.old.journal }
+        ensures unedited { only_reads scope ≡ true → IsUnedited saved.old saved.new }
         ensures room { length piece.new ≡ length piece.old }
     {
         if self.is_idle() {
             return;
         }
         if !self.reads() {
-            self.answer(id, saved, share);
+            self.answer(heap, id, saved, share, scope);
             return;
         }
         self.read(id, net, saved, piece);
-        if follows {
+        if scope.is_earlier() {
             return;
         }
         if !self.is_open() {
             return;
         }
-        self.answer(id, saved, share);
+        self.answer(heap, id, saved, share, scope);
     }
 
     /// Whether it neither reads nor steps in this turn.
@@ -126,6 +132,7 @@ impl Client {
         ensures ready { IsReady D.seen D.may_leave D.failed D.stale saved.old
             → IsReady D.seen D.may_leave D.failed D.stale saved.new }
         ensures journal { saved.new.journal ≡ saved.old.journal }
+        ensures unedited { IsUnedited saved.old saved.new }
         ensures room { length piece.new ≡ length piece.old }
     {
         match net.read(id, piece) {
@@ -143,12 +150,14 @@ impl Client {
     }
 
     /// Answers the requests that have come, as far as the share of the turn goes, and none once so many bytes are pending, or no edit
-    /// has room.
+    /// has room, or it may be an edit that has to wait.
     fn answer<D: Device, R: Renderer + Drop>(
         &mut self,
+        heap: Heap,
         id: u64,
         saved: &mut SavedHub<D, R>,
         share: &mut Share,
+        scope: Scope,
     )
         requires open { self.old.is_open ≡ true }
         requires none { self.old.pending ≡ [] }
@@ -159,6 +168,7 @@ impl Client {
         ensures ready { IsReady D.seen D.may_leave D.failed D.stale saved.old
             → IsReady D.seen D.may_leave D.failed D.stale saved.new }
         ensures journal { saved.new.journal ≡ saved.old.journal }
+        ensures unedited { only_reads scope ≡ true → IsUnedited saved.old saved.new }
     {
         let mut held = 0;
         'steps: for _ in 0..MOST_STEPS {
@@ -166,6 +176,9 @@ impl Client {
                 return;
             }
             if !saved.has_room() {
+                return;
+            }
+            if edit_waits(heap, saved, id, scope) {
                 return;
             }
             if !share.take(next_cost(saved, id)) {
@@ -197,6 +210,7 @@ impl Client {
         ensures ready { IsReady D.seen D.may_leave D.failed D.stale saved.old
             → IsReady D.seen D.may_leave D.failed D.stale saved.new }
         ensures journal { saved.new.journal ≡ saved.old.journal }
+        ensures unedited { StepOnlyReads saved.old.hub.1 id → IsUnedited saved.old saved.new }
     {
         if self.replies.reserve(1).is_err() {
             self.is_starved = true;
@@ -237,6 +251,21 @@ impl Client {
     }
 }
 
+/// Whether the next request of a connection waits, since it may be an edit.
+fn edit_waits<D: Device, R: Renderer + Drop>(
+    heap: Heap,
+    saved: &SavedHub<D, R>,
+    id: u64,
+    scope: Scope,
+) -> bool
+    ensures { result ≡ false → only_reads scope ≡ true → StepOnlyReads saved.now.hub.1 id }
+{
+    if !scope.only_reads() {
+        return false;
+    }
+    !saved.only_reads(heap, ConnId(id))
+}
+
 /// What the next step on a connection costs.
 fn next_cost<D: Device, R: Renderer + Drop>(saved: &SavedHub<D, R>, id: u64) -> u32
     ensures { result ≡ next_cost saved.now.hub.1 id }
@@ -271,6 +300,7 @@ fn dropped<D: Device, R: Renderer + Drop>(
     ensures ready { IsReady D.seen D.may_leave D.failed D.stale saved.old
         → IsReady D.seen D.may_leave D.failed D.stale saved.new }
     ensures journal { saved.new.journal ≡ saved.old.journal }
+    ensures unedited { IsUnedited saved.old saved.new }
 {
     saved.disconnect(ConnId(id));
     stage

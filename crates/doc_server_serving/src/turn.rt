@@ -5,9 +5,10 @@ ghost use Rattle.std.specs.FinMap as map;
 ghost use Rattle.doc_hub.specs.Worlds.{World};
 ghost use Rattle.doc_server_network.specs.Networks.{Recalls, Rests, Stays};
 ghost use Rattle.doc_server_network.specs.Crashes.{CrashesLeave, RestoresEither};
-ghost use Rattle.doc_server_network.specs.Saved.{HasFailed, IsAllSaved, IsReady, IsSaved, IsSettled, WasWrittenAt};
+ghost use Rattle.doc_server_network.specs.Saved.{HasFailed, IsAllSaved, IsReady, IsSaved, IsSettled, IsUnedited, WasWrittenAt};
 ghost use Rattle.doc_server_serving.specs.Hearing.{HeardAt, SparesAll, WaitOn};
 ghost use Rattle.doc_server_serving.specs.Parts.{StayBut};
+ghost use Rattle.doc_server_serving.specs.Scopes.{is_earlier, only_reads};
 ghost use Rattle.doc_server_serving.specs.Sharing.{IsModest, SharesTurn};
 ghost use Rattle.doc_server_serving.specs.Turns.{Turns};
 ghost use Rattle.doc_server_serving.specs.Visits.{AreEither};
@@ -15,6 +16,7 @@ ghost use Rattle.doc_server_serving.specs.Wirings.{AreWoken, EndAll, Gives, Give
 ghost use Rattle.doc_store.specs.Store.{StoreState};
 
 use crate::peers::Peers;
+use crate::scope::Scope;
 use doc_page::renderer::Renderer;
 use doc_page_parts::heap::Heap;
 use doc_server_journal::device::Device;
@@ -24,8 +26,8 @@ use doc_server_network::saved_hub::SavedHub;
 use doc_server_settling::fault::TurnFault;
 
 /// One turn of the clients of these numbers, so many seconds behind the beginning of 1970: what is pending is handed over, they are read and
-/// stepped, their edits are settled, and the replies are handed over. Where another server is followed whoever is read isn't stepped. After an
-/// `Err` the server ends: the edits of the turn aren't kept, and none of its replies was handed over.
+/// stepped as far as the turn answers what came, their edits are settled, and the replies are handed over. Where another server is followed
+/// whoever is read isn't stepped. After an `Err` the server ends: the edits of the turn aren't kept, and none of its replies was handed over.
 pub fn turn<N: Network, D: Device, R: Renderer + Drop>(
     heap: Heap,
     peers: &mut Peers,
@@ -35,7 +37,7 @@ pub fn turn<N: Network, D: Device, R: Renderer + Drop>(
     piece: &mut [u8],
     share: &mut Share,
     seconds: u64,
-    follows: bool,
+    scope: Scope,
 ) -> Result<(), TurnFault>
     requires all { IsAllSaved saved.old }
     requires ready { IsReady D.seen D.may_leave D.failed D.stale saved.old }
@@ -53,7 +55,8 @@ pub fn turn<N: Network, D: Device, R: Renderer + Drop>(
         × SharesTurn ready.now s.run share.old share.new × IsModest ready.now s.run
         × ((k : ℕ) → Contains ready.now k
         → HeardAt k s.run (map.get peers.old k) (map.get peers.new k))
-        × (follows ≡ true → AreEither ready.now s.run) }
+        × (is_earlier scope ≡ true → AreEither ready.now s.run) }
+    ensures unedited { only_reads scope ≡ true → IsUnedited saved.old saved.new }
     ensures waits_on { WaitOn peers.old peers.new }
     ensures others { StayBut ready.now peers.old peers.new }
     ensures time { OnOk result (WasWrittenAt seconds saved.old.journal saved.new.journal) }
@@ -70,7 +73,7 @@ pub fn turn<N: Network, D: Device, R: Renderer + Drop>(
     ensures room { length piece.new ≡ length piece.old }
 {
     send_settled(peers, ready, net, saved);
-    peers.take_in_all(ready, net, saved, piece, share, follows);
+    peers.take_in_all(heap, ready, net, saved, piece, share, scope);
     saved.settle(heap, seconds)?;
     send_settled(peers, ready, net, saved);
     peers.finish_all(ready, net, piece);

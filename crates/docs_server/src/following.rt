@@ -14,9 +14,9 @@ use doc_page_parts::text::Text;
 use doc_server_follow::growing_fault::GrowingFault;
 use doc_server_follow::looked::Looked;
 use doc_server_journal::fault::OpenFault;
-use doc_server_reload::beside::restored_beside;
 use doc_server_restore::fault::RestoreFault;
 use doc_server_serving::given::{Configuration, Given};
+use doc_server_serving::net::beside::restored_beside;
 use doc_server_serving::net::follow_fault::FollowFault;
 use doc_server_serving::net::reload_fault::Refusal;
 use doc_server_serving::net::reloaded::Reloaded;
@@ -389,6 +389,10 @@ impl<P: AllocGlobal + Clock + Clone + Drop + Eprint + Files<File = File> + Input
 
     fn follows(&self) -> bool {
         true
+    }
+
+    fn is_busy(&self) -> bool {
+        false
     }
 
     fn hear(

@@ -275,6 +275,10 @@ impl<P: AllocGlobal + Clock + Clone + Drop + Eprint + Files + Input> Source for 
         false
     }
 
+    fn is_busy(&self) -> bool {
+        false
+    }
+
     fn hear(
         &mut self,
         media: &Option<Media>,

@@ -49,10 +49,14 @@ impl<D: Device, R: Renderer + Drop> SavedHub<D, R> {
 }
 
 impl<D: Device, R: Renderer + Drop> Edits for SavedHub<D, R> {
-    ghost use Rattle.std.specs.Prelude.{◌≡◌};
-    ghost use Rattle.std.proofs.Common.{ap};
-    ghost use Rattle.doc_hub.specs.Worlds.{store_of};
-    ghost use Rattle.doc_server_network.specs.Followings.{IsEdited, edited_behind, edited_itself};
+    ghost use Rattle.std.specs.Prelude.{◌≡◌, ◌++◌, []};
+    ghost use Rattle.std.proofs.Common.{ap, refl, subst, ◌∙◌};
+    ghost use Rattle.std.proofs.lemmas.List.Elements.{All-nil, All-append};
+    ghost use Rattle.doc_hub.specs.Runs.{Runs, nothing};
+    ghost use Rattle.doc_hub.specs.Worlds.{store_of, with_store};
+    ghost use Rattle.doc_hub.proofs.RunParts.{runs_join};
+    ghost use Rattle.doc_server_network.specs.Followings.{IsEdited};
+    ghost use Rattle.doc_server_reload.specs.ReplyLaws.{IsSiteEdit};
 
     ghost store = { λ k. store_of k.hub.1 };
 
@@ -82,7 +86,24 @@ impl<D: Device, R: Renderer + Drop> Edits for SavedHub<D, R> {
 
     ghost alike_media = { λ _ _ is. ap (λ w. w.media) is.others };
 
-    ghost alike_itself = { λ k. edited_itself (R.page k.hub.0) k };
+    ghost alike_itself = { λ k. record {
+      page = refl;
+      edits = record { run = []; runs = nothing k.hub.1; own = All-nil IsSiteEdit };
+      others = refl;
+      journal = refl;
+      unsaved = refl;
+    } };
 
-    ghost alike_behind = { λ a b c first second. edited_behind (R.page a.hub.0) (R.page b.hub.0) (R.page c.hub.0) a b c first second };
+    ghost alike_behind = { λ a b c first second. record {
+      page = second.page ∙ first.page;
+      edits = record {
+        run = first.edits.run ++ second.edits.run;
+        runs = runs_join (R.page a.hub.0) a.hub.1 b.hub.1 c.hub.1 first.edits.run second.edits.run first.edits.runs
+            (subst (λ r. Runs r b.hub.1 second.edits.run c.hub.1) first.page second.edits.runs);
+        own = All-append IsSiteEdit first.edits.run second.edits.run first.edits.own second.edits.own;
+      };
+      others = second.others ∙ ap (λ w. with_store w (store_of c.hub.1)) first.others;
+      journal = second.journal ∙ first.journal;
+      unsaved = second.unsaved ∙ first.unsaved;
+    } };
 }

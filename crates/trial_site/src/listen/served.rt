@@ -24,6 +24,7 @@ use doc_server_serving::net::mio_network::MioNetwork;
 use doc_server_serving::net::saved_hub::SavedHub;
 use doc_server_serving::next_turn::NextTurn;
 use doc_server_serving::room::keep_room;
+use doc_server_serving::scope::Scope;
 use doc_server_serving::server::Server;
 use doc_server_settling::reserve::{RESERVE, SPARE};
 use std::marker::Model;
@@ -111,10 +112,13 @@ impl<R: Renderer + Drop> Served<R> {
         if self.fault.is_some() {
             return false;
         }
-        match self
-            .server
-            .turn(rt, &mut self.net, &mut self.saved, &mut self.next, false)
-        {
+        match self.server.turn(
+            rt,
+            &mut self.net,
+            &mut self.saved,
+            &mut self.next,
+            Scope::All,
+        ) {
             Ok(_) => true,
             Err(fault) => {
                 self.fault = Some(fault);

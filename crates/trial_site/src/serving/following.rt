@@ -82,6 +82,10 @@ impl Source for Following {
         true
     }
 
+    fn is_busy(&self) -> bool {
+        false
+    }
+
     fn hear(
         &mut self,
         _media: &Option<Media>,

@@ -24,6 +24,10 @@ impl Source for NothingGiven {
         false
     }
 
+    fn is_busy(&self) -> bool {
+        false
+    }
+
     fn hear(
         &mut self,
         _media: &Option<Media>,

@@ -24,6 +24,7 @@ use doc_page_parts::bytes::Bytes;
 use doc_page_parts::failure::Memory;
 use doc_page_parts::heap::{Heap, String, Vec};
 use doc_server_journal::device::Device;
+use doc_server_serving::net::lead::Lead;
 use doc_server_serving::net::reload_fault::ReloadFault;
 use doc_server_serving::net::reloaded::Reloaded;
 use doc_server_serving::net::saved_hub::SavedHub;
@@ -137,15 +138,41 @@ fn reload<D: Device, R: Renderer + Drop>(
         out.push_str("no pages | ")?;
         return Ok(true);
     };
-    match saved.reload(heap, pages) {
-        Ok(made) => push_reloaded(out, made)?,
-        Err(ReloadFault::Refused(refusal)) => write!(out, "refused: {refusal} | ")?,
+    match saved.begin_reload(heap, pages) {
+        Ok(begun) => lead(saved, &begun, out),
+        Err(ReloadFault::Refused(refusal)) => {
+            write!(out, "refused: {refusal} | ")?;
+            Ok(true)
+        }
         Err(ReloadFault::Ends(fault)) => {
             write!(out, "ended: {fault}")?;
-            return Ok(false);
+            Ok(false)
         }
     }
-    Ok(true)
+}
+
+/// Makes the edits of a reload that has begun. False: it has ended the server.
+fn lead<D: Device, R: Renderer + Drop>(
+    saved: &mut SavedHub<D, R>,
+    begun: &Lead,
+    out: &mut String,
+) -> Result<bool, Memory>
+    requires all { IsAllSaved saved.old }
+    requires ready { IsReady D.seen D.may_leave D.failed D.stale saved.old }
+    ensures { IfOk result (λ goes. goes ≡ true
+        → IsAllSaved saved.new × IsReady D.seen D.may_leave D.failed D.stale saved.new) }
+{
+    let edits = begun.edits.get();
+    match saved.lead(edits) {
+        Ok(()) => {
+            push_reloaded(out, Reloaded::by(edits, begun.records))?;
+            Ok(true)
+        }
+        Err(fault) => {
+            write!(out, "ended: {fault}")?;
+            Ok(false)
+        }
+    }
 }
 
 fn push_reloaded(out: &mut String, made: Reloaded) -> Result<(), Memory> {

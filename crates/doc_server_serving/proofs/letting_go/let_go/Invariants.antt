@@ -5,7 +5,7 @@ use Rattle.doc_server_network.specs.Networks.{Recalls, Stays}
 use Rattle.doc_server_network.specs.Saved.{IsReady, StaysSaved}
 use Rattle.doc_server_serving.specs.Hearing.{WaitOn}
 use Rattle.doc_server_serving.specs.Parts.{NoMore}
-use Rattle.doc_server_serving.specs.Sites.{IsSameSite}
+use Rattle.doc_server_listen.specs.Sites.{IsSameSite}
 use Rattle.doc_server_serving.specs.Turns.{Turns}
 use Rattle.doc_server_serving.specs.Wirings.{AreWoken}
 use Rattle.doc_server_serving.proofs.letting_go.let_go.Given as goal

@@ -7,6 +7,9 @@ use Rattle.doc_server_serving.proofs.Minding.{waits_heard, waits_join, waits_spa
 use Rattle.doc_server_serving.proofs.Parting.{stay_join}
 use Rattle.doc_server_serving.proofs.Tables.{gives_fronts}
 use Rattle.doc_server_serving.proofs.TurnSteps.{begun_sharing, ended_sharing, on_err}
+use Rattle.doc_server_serving.specs.Scopes.{is_earlier}
+use Rattle.doc_server_serving.proofs.Sites.{all_saved_too}
+use Rattle.doc_server_serving.proofs.Unedited.{unedited_settled}
 use Rattle.doc_server_serving.proofs.turn.turn.Goals as goal
 
 pub returns-in_err-settle-clause-turns : goal.returns-in_err-settle-clause-turns
@@ -16,7 +19,7 @@ returns-in_err-settle-clause-turns g c =
     c.args.ready.now (came c.args.net.now) (came c.send_settled.new.net) (came c.take_in_all.new.net) (gone c.args.net.now)
     (gone c.send_settled.new.net) (gone c.take_in_all.new.net) (g.N.Network.has_ended c.send_settled.new.net)
     (g.N.Network.has_ended c.take_in_all.new.net) c.args.peers.now c.send_settled.new.peers c.take_in_all.new.self c.args.share.now
-    c.take_in_all.new.share c.args.follows (ap (λ h. h.1) c.settle.ensures.hub) c.send_settled.ensures.gives c.send_settled.ensures.spares c.send_settled.ensures.came
+    c.take_in_all.new.share (is_earlier c.args.scope) (ap (λ h. h.1) c.settle.ensures.hub) c.send_settled.ensures.gives c.send_settled.ensures.spares c.send_settled.ensures.came
     c.take_in_all.ensures.serves c.take_in_all.ensures.gone
 
 pub returns-in_err-settle-clause-waits : goal.returns-in_err-settle-clause-waits
@@ -33,13 +36,13 @@ returns-clause-turns g c =
     c.settle.new.self.hub.1 c.args.ready.now (came c.args.net.now) (came c.send_settled.new.net) (came c.take_in_all.new.net)
     (gone c.args.net.now) (gone c.send_settled.new.net) (gone c.take_in_all.new.net) (g.N.Network.has_ended c.send_settled.new.net)
     (g.N.Network.has_ended c.take_in_all.new.net) c.args.peers.now c.send_settled.new.peers c.take_in_all.new.self c.args.share.now
-    c.take_in_all.new.share c.args.follows (ap (λ h. h.1) c.settle.ensures.hub) c.send_settled.ensures.gives c.send_settled.ensures.spares c.send_settled.ensures.came
+    c.take_in_all.new.share (is_earlier c.args.scope) (ap (λ h. h.1) c.settle.ensures.hub) c.send_settled.ensures.gives c.send_settled.ensures.spares c.send_settled.ensures.came
     c.take_in_all.ensures.serves c.take_in_all.ensures.gone in
     ended_sharing (g.R.Renderer.page c.args.saved.now.hub.0) c.args.saved.now.hub.1 c.settle.new.self.hub.1 c.args.ready.now
     (came c.args.net.now) (came c.take_in_all.new.net) (came c.send_settled-2.new.net) (came c.finish_all.new.net)
     (gone c.args.net.now) (gone c.take_in_all.new.net) (gone c.send_settled-2.new.net) (gone c.finish_all.new.net)
     (g.N.Network.has_ended c.send_settled-2.new.net) c.args.peers.now c.take_in_all.new.self c.send_settled-2.new.peers
-    c.finish_all.new.self c.args.share.now c.take_in_all.new.share c.args.follows begun c.send_settled-2.ensures.gives c.send_settled-2.ensures.came
+    c.finish_all.new.self c.args.share.now c.take_in_all.new.share (is_earlier c.args.scope) begun c.send_settled-2.ensures.gives c.send_settled-2.ensures.came
     c.finish_all.ensures.lingers c.send_settled-2.ensures.spares c.finish_all.ensures.spares c.finish_all.ensures.gone
 
 pub returns-clause-sent : goal.returns-clause-sent
@@ -96,3 +99,17 @@ returns-clause-time g c =
       subst (λ (j : Option (Journal g.row.D.Denot)). WereWritten c.args.seconds lines j c.settle.new.self.journal)
           c.take_in_all.ensures.journal c.in_ok-settle.ensures.time.2,
     )
+
+pub returns-in_err-settle-clause-unedited : goal.returns-in_err-settle-clause-unedited
+returns-in_err-settle-clause-unedited g c = λ is.
+    let is_not = c.take_in_all.ensures.unedited is in
+    unedited_settled c.args.saved.now c.take_in_all.new.saved c.settle.new.self is_not c.settle.ensures.rests
+    (all_saved_too g.D.Device.seen g.D.Device.may_leave g.D.Device.failed g.D.Device.stale c.args.saved.now c.take_in_all.new.saved
+    is_not.journal is_not.unsaved c.requires.all)
+
+pub returns-clause-unedited : goal.returns-clause-unedited
+returns-clause-unedited g c = λ is.
+    let is_not = c.take_in_all.ensures.unedited is in
+    unedited_settled c.args.saved.now c.take_in_all.new.saved c.settle.new.self is_not c.settle.ensures.rests
+    (all_saved_too g.D.Device.seen g.D.Device.may_leave g.D.Device.failed g.D.Device.stale c.args.saved.now c.take_in_all.new.saved
+    is_not.journal is_not.unsaved c.requires.all)

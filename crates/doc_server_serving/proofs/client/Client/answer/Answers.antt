@@ -2,6 +2,7 @@ use Rattle.std.proofs.Common.{refl, ◌∙◌, length, subst, sym}
 use Rattle.doc_server_listen.specs.Costs.{Left, Takes}
 use Rattle.doc_server_listen.proofs.CostSteps.{within_none}
 use Rattle.doc_server_serving.proofs.AnswerSteps.{AnswersSharing, held_more, none_held, not_answered, sharing_join, still_room}
+use Rattle.doc_server_network.proofs.Leading.{same_is_unedited, unedited_behind}
 use Rattle.doc_server_serving.proofs.client.Client.answer.Goals as goal
 
 pub steps-init : goal.steps-init
@@ -17,6 +18,7 @@ steps-init g c = record {
   saved = λ config begin is. is;
   ready = λ is. is;
   journal = refl;
+  unedited = λ is. same_is_unedited c.args.saved.now c.args.saved.now refl;
 }
 
 pub step-requires-clause-room : goal.step-requires-clause-room
@@ -44,9 +46,17 @@ steps-preserved g c = record {
   saved = λ config begin is. c.step.ensures.saved config begin (c.steps.invariant.saved config begin is);
   ready = λ is. c.step.ensures.ready (c.steps.invariant.ready is);
   journal = c.step.ensures.journal ∙ c.steps.invariant.journal;
+  unedited = λ is.
+      unedited_behind c.args.saved.now c.steps.saved c.step.new.saved (c.steps.invariant.unedited is)
+      (c.step.ensures.unedited (c.edit_waits.ensures c.if-edit_waits.false is));
 }
 
 pub returns-then-not-take-clause-answers : goal.returns-then-not-take-clause-answers
 returns-then-not-take-clause-answers g c =
     subst (λ (l : Left). AnswersSharing (g.R.Renderer.page c.args.saved.now.hub.0) c.args.saved.now.hub.1 c.steps.saved.hub.1 c.args.id
     c.args.self.now c.steps.self c.args.share.now l) (sym (c.take.ensures.refused c.if-not-take.true)) c.steps.invariant.answers
+
+pub returns-in_default-clause-unedited : goal.returns-in_default-clause-unedited
+returns-in_default-clause-unedited g c = λ is.
+    unedited_behind c.args.saved.now c.steps.saved c.step.new.saved (c.steps.invariant.unedited is)
+    (c.step.ensures.unedited (c.edit_waits.ensures c.if-edit_waits.false is))

@@ -1,6 +1,7 @@
 use Rattle.std.proofs.Common.{◌≡◌, ◌≤◌, ◌<◌, true, length}
-use Rattle.doc_server_network.specs.Saved.{IsReady, StaysSaved}
+use Rattle.doc_server_network.specs.Saved.{IsReady, IsUnedited, StaysSaved}
 use Rattle.doc_server_serving.specs.Replies.{most_pending}
+use Rattle.doc_server_serving.specs.Scopes.{only_reads}
 use Rattle.doc_server_serving.proofs.AnswerSteps.{AnswersSharing}
 use Rattle.doc_server_serving.proofs.client.Client.answer.Given as goal
 
@@ -14,4 +15,5 @@ invariant-steps g l = record {
   ready : IsReady g.D.Device.seen g.D.Device.may_leave g.D.Device.failed g.D.Device.stale l.fn.saved
       → IsReady g.D.Device.seen g.D.Device.may_leave g.D.Device.failed g.D.Device.stale l.saved;
   journal : l.saved.journal ≡ l.fn.saved.journal;
+  unedited : only_reads l.scope ≡ true → IsUnedited l.fn.saved l.saved;
 }

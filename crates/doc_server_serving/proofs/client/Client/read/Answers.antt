@@ -1,11 +1,11 @@
-use Rattle.std.proofs.Common.{refl, ap, ◌∙◌, sym, subst, take}
+use Rattle.std.proofs.Common.{refl, ap, ◌∙◌, subst, take}
 use Rattle.std.specs.Prelude.{Ok}
 use Rattle.doc_hub_events.specs.declared.event.ConnId.{ConnId}
 use Rattle.doc_server_network.specs.Networks.{Moves, came_len}
-use Rattle.doc_server_network.proofs.Passing.{append_none, moved_at}
+use Rattle.doc_server_network.proofs.Passing.{moved_at}
 use Rattle.doc_server_serving.specs.Wirings.{Peer}
 use Rattle.doc_server_serving.proofs.ReadSteps.{read_ended, read_nothing, read_pushed, read_refused}
-use Rattle.doc_server_serving.proofs.Wiring.{not_both}
+use Rattle.doc_server_network.proofs.Leading.{push_is_unedited, same_is_unedited, unedited_behind}
 use Rattle.doc_server_serving.proofs.client.Client.read.Goals as goal
 
 pub returns-in-Ok-clause-serves : goal.returns-in-Ok-clause-serves
@@ -64,3 +64,18 @@ returns-in-Err-clause-serves g c =
     (old c.args.id) (new c.args.id) (g.N.Network.has_ended c.read.new.self c.args.id) _ _ opened refl c.args.saved.now.hub.1
     c.dropped-self-inside-in-Err.new.saved.hub.1 id _ c.dropped-self-inside-in-Err.ensures.world
     (moved_at old new c.args.id _ c.in-Err.ensures.came) refl c.in-Err.ensures.fails)
+
+pub returns-in-Ok-clause-unedited : goal.returns-in-Ok-clause-unedited
+returns-in-Ok-clause-unedited g c =
+    push_is_unedited (g.R.Renderer.page c.args.saved.now.hub.0) c.args.saved.now c.push.new.self c.push.ensures.journal c.push.ensures.unsaved (record { 0 = c.args.id })
+    (take c.in-Ok-Bytes.count c.read.new.buf) _ c.push.ensures.world
+
+pub returns-in-Err-push-clause-unedited : goal.returns-in-Err-push-clause-unedited
+returns-in-Err-push-clause-unedited g c =
+    unedited_behind c.args.saved.now c.push.new.self c.dropped-self-inside.new.saved
+    (push_is_unedited (g.R.Renderer.page c.args.saved.now.hub.0) c.args.saved.now c.push.new.self c.push.ensures.journal c.push.ensures.unsaved (record { 0 = c.args.id })
+    (take c.in-Ok-Bytes.count c.read.new.buf) _ c.push.ensures.world)
+    c.dropped-self-inside.ensures.unedited
+
+pub returns-in-Ok-Nothing-clause-unedited : goal.returns-in-Ok-Nothing-clause-unedited
+returns-in-Ok-Nothing-clause-unedited g c = same_is_unedited c.args.saved.now c.args.saved.now refl

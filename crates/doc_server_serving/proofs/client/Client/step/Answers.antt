@@ -11,6 +11,7 @@ use Rattle.doc_server_serving.specs.Replies.{left_of, most_pending}
 use Rattle.doc_server_serving.specs.Wirings.{Peer}
 use Rattle.doc_server_serving.proofs.AnswerSteps.{answered, answered_last, not_answered}
 use Rattle.doc_server_serving.proofs.HandingOver.{left_behind}
+use Rattle.doc_server_network.proofs.Leading.{same_is_unedited, unedited_behind}
 use Rattle.doc_server_serving.proofs.client.Client.step.Goals as goal
 
 pub returns-then-is_err-clause-answers : goal.returns-then-is_err-clause-answers
@@ -113,3 +114,30 @@ returns-in-Err-Memory-clause-answers g c =
           opened,
       costs_step c.args.saved.now.hub.1 id,
     )
+
+pub returns-then-is_err-clause-unedited : goal.returns-then-is_err-clause-unedited
+returns-then-is_err-clause-unedited g c = λ is. same_is_unedited c.args.saved.now c.args.saved.now refl
+
+pub returns-in-Ok-Sent-clause-unedited : goal.returns-in-Ok-Sent-clause-unedited
+returns-in-Ok-Sent-clause-unedited g c = λ is. c.step.ensures.rests is
+
+pub returns-in-Ok-Last-clause-unedited : goal.returns-in-Ok-Last-clause-unedited
+returns-in-Ok-Last-clause-unedited g c = λ is.
+    unedited_behind c.args.saved.now c.step.new.self c.dropped-self-inside.new.saved (c.step.ensures.rests is)
+    c.dropped-self-inside.ensures.unedited
+
+pub returns-in-Ok-More-clause-unedited : goal.returns-in-Ok-More-clause-unedited
+returns-in-Ok-More-clause-unedited g c = λ is. c.step.ensures.rests is
+
+pub returns-in-Ok-Closed-clause-unedited : goal.returns-in-Ok-Closed-clause-unedited
+returns-in-Ok-Closed-clause-unedited g c = λ is.
+    unedited_behind c.args.saved.now c.step.new.self c.dropped-self-inside-in-Ok-Closed.new.saved (c.step.ensures.rests is)
+    c.dropped-self-inside-in-Ok-Closed.ensures.unedited
+
+pub returns-in-Err-NoConnection-clause-unedited : goal.returns-in-Err-NoConnection-clause-unedited
+returns-in-Err-NoConnection-clause-unedited g c = λ is.
+    unedited_behind c.args.saved.now c.step.new.self c.dropped-self-inside-in-Err-NoConnection.new.saved (c.step.ensures.rests is)
+    c.dropped-self-inside-in-Err-NoConnection.ensures.unedited
+
+pub returns-in-Err-Memory-clause-unedited : goal.returns-in-Err-Memory-clause-unedited
+returns-in-Err-Memory-clause-unedited g c = λ is. c.step.ensures.rests is

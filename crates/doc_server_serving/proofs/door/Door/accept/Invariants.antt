@@ -6,7 +6,7 @@ use Rattle.doc_server_network.specs.Saved.{IsReady, StaysSaved}
 use Rattle.doc_server_serving.specs.Hearing.{WaitOn}
 use Rattle.doc_server_serving.specs.Invariants.{GoesOn}
 use Rattle.doc_server_serving.specs.Parts.{NoMore}
-use Rattle.doc_server_serving.specs.Sites.{IsSameSite}
+use Rattle.doc_server_listen.specs.Sites.{IsSameSite}
 use Rattle.doc_server_serving.proofs.door.Door.accept.Given as goal
 
 abbrev pub invariant-accepts : goal.invariant-accepts

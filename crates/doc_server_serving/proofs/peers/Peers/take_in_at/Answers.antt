@@ -12,6 +12,8 @@ use Rattle.doc_server_serving.proofs.TableServing.{AllSharing, serves_at, serves
 use Rattle.doc_server_serving.proofs.Parting.{others_in, others_none}
 use Rattle.doc_server_serving.proofs.Tables.{woken_at}
 use Rattle.doc_server_serving.proofs.Visits.{either_none, one_either}
+use Rattle.doc_server_serving.specs.Scopes.{is_earlier}
+use Rattle.doc_server_network.proofs.Leading.{same_is_unedited}
 use Rattle.doc_server_serving.proofs.peers.Peers.take_in_at.Goals as goal
 
 pub returns-in_default-clause-serves : goal.returns-in_default-clause-serves
@@ -19,7 +21,7 @@ returns-in_default-clause-serves g c =
     let render = g.R.Renderer.page c.args.saved.now.hub.0 in let w = c.args.saved.now.hub.1 in
     let came = g.N.Network.came c.args.net.now in let ended = g.N.Network.has_ended c.args.net.now in
     subst (λ (t : Table). AllSharing render w w (c.args.id ∷ []) came came ended c.args.self.now t c.args.share.now c.begin.new.self
-    c.args.follows)
+    (is_earlier c.args.scope))
     (sym (ap (λ (t : BTreeMap ℕ Peer). map.from_entries {R = nat_cmp} t.entries) c.get_mut.follows.holds-at-none ∙ c.self.view_is)) (
       serves_nobody render w (c.args.id ∷ []) came came ended c.args.self.now (λ k. refl),
       shares_none c.args.share.now c.begin.new.self (ap (λ (l : Left). l.dear) c.begin.ensures) (c.args.id ∷ []),
@@ -76,3 +78,6 @@ pub returns-in_default-clause-others : goal.returns-in_default-clause-others
 returns-in_default-clause-others g c =
     others_none c.args.self.now _ c.args.id
     (ap (λ (t : BTreeMap ℕ Peer). map.from_entries {R = nat_cmp} t.entries) c.get_mut.follows.holds-at-none ∙ c.self.view_is)
+
+pub returns-in_default-clause-unedited : goal.returns-in_default-clause-unedited
+returns-in_default-clause-unedited g c = λ is. same_is_unedited c.args.saved.now c.args.saved.now refl

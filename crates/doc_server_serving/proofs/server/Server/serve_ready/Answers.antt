@@ -12,6 +12,8 @@ use Rattle.doc_server_serving.proofs.Hearing.{all_heard, heard_longer}
 use Rattle.doc_server_serving.proofs.Listed.{among_them, listed}
 use Rattle.doc_server_serving.proofs.Minding.{waits_nobody}
 use Rattle.doc_server_serving.proofs.Parting.{minded_served}
+use Rattle.doc_server_network.proofs.Leading.{same_is_unedited}
+use Rattle.doc_server_serving.proofs.Unedited.{no_yes}
 use Rattle.doc_server_serving.proofs.server.Server.serve_ready.Goals as goal
 
 pub turn-requires-clause-all : goal.turn-requires-clause-all
@@ -38,8 +40,8 @@ returns-in_err-turn-clause-goes g c =
     c.turn.new.saved.hub c.args.net.now c.turn.new.net c.args.self.now.peers c.turn.new.peers c.turn.ensures.same c.turn.ensures.woken
     c.turn.ensures.free _ c.turn.ensures.turns.0
 
-pub returns-then-eq-clause-goes : goal.returns-then-eq-clause-goes
-returns-then-eq-clause-goes g c =
+pub returns-then-keeps_room-clause-goes : goal.returns-then-keeps_room-clause-goes
+returns-then-keeps_room-clause-goes g c =
     goes_turns g.R.Renderer.page g.N.Network.came g.N.Network.gone g.N.Network.wakes g.N.Network.is_free c.args.saved.now.hub
     c.turn.new.saved.hub c.args.net.now c.turn.new.net c.args.self.now.peers c.turn.new.peers c.turn.ensures.same c.turn.ensures.woken
     c.turn.ensures.free _ c.turn.ensures.turns.0
@@ -72,8 +74,8 @@ returns-in_err-turn-clause-fewer g c =
     (g.N.Network.came c.args.net.now) (g.N.Network.came c.turn.new.net) (g.N.Network.gone c.args.net.now)
     (g.N.Network.gone c.turn.new.net) c.args.self.now.peers c.turn.new.peers c.turn.ensures.turns.0
 
-pub returns-then-eq-clause-fewer : goal.returns-then-eq-clause-fewer
-returns-then-eq-clause-fewer g c =
+pub returns-then-keeps_room-clause-fewer : goal.returns-then-keeps_room-clause-fewer
+returns-then-keeps_room-clause-fewer g c =
     fewer_turned (g.R.Renderer.page c.args.saved.now.hub.0) c.args.saved.now.hub.1 c.turn.new.saved.hub.1 _
     (g.N.Network.came c.args.net.now) (g.N.Network.came c.turn.new.net) (g.N.Network.gone c.args.net.now)
     (g.N.Network.gone c.turn.new.net) c.args.self.now.peers c.turn.new.peers c.turn.ensures.turns.0
@@ -90,13 +92,13 @@ returns-clause-fewer g c =
     (g.N.Network.came c.args.net.now) (g.N.Network.came c.turn.new.net) (g.N.Network.gone c.args.net.now)
     (g.N.Network.gone c.turn.new.net) c.args.self.now.peers c.turn.new.peers c.turn.ensures.turns.0
 
-pub returns-then-eq-clause-list : goal.returns-then-eq-clause-list
-returns-then-eq-clause-list g c =
+pub returns-then-keeps_room-clause-list : goal.returns-then-keeps_room-clause-list
+returns-then-keeps_room-clause-list g c =
     c.in_ok-collect.ensures ∙ ap (λ (xs : List ℕ). xs ++ turn_of c.first.result c.args.self.now.peers) c.clear.ensures.items
     ∙ ap (λ n. turn_of n c.args.self.now.peers) c.first.ensures
 
-pub returns-then-eq-clause-each : goal.returns-then-eq-clause-each
-returns-then-eq-clause-each g c =
+pub returns-then-keeps_room-clause-each : goal.returns-then-keeps_room-clause-each
+returns-then-keeps_room-clause-each g c =
     let list = c.in_ok-collect.ensures ∙ ap (λ (xs : List ℕ). xs ++ turn_of c.first.result c.args.self.now.peers) c.clear.ensures.items
     ∙ ap (λ n. turn_of n c.args.self.now.peers) c.first.ensures in
     λ k. ap (λ (xs : List ℕ). times_among xs k) list ∙ listed c.args.next.now.first c.args.self.now.peers k
@@ -121,8 +123,8 @@ returns-in_err-collect-clause-any_moment g c =
 pub returns-in_err-turn-clause-any_moment : goal.returns-in_err-turn-clause-any_moment
 returns-in_err-turn-clause-any_moment g c = λ config all is. c.turn.ensures.any_moment config c.args.saved.now.hub.1 is.0
 
-pub returns-then-eq-clause-any_moment : goal.returns-then-eq-clause-any_moment
-returns-then-eq-clause-any_moment g c = λ config all is. c.turn.ensures.any_moment config c.args.saved.now.hub.1 is.0
+pub returns-then-keeps_room-clause-any_moment : goal.returns-then-keeps_room-clause-any_moment
+returns-then-keeps_room-clause-any_moment g c = λ config all is. c.turn.ensures.any_moment config c.args.saved.now.hub.1 is.0
 
 pub returns-in_err-keep_room-clause-any_moment : goal.returns-in_err-keep_room-clause-any_moment
 returns-in_err-keep_room-clause-any_moment g c =
@@ -140,8 +142,8 @@ returns-clause-any_moment g c =
     c.keep_room.ensures.site (c.turn.ensures.any_moment config c.args.saved.now.hub.1 is.0)
     (c.keep_room.ensures.any_moment config c.turn.new.saved.hub.1 (c.in_ok-turn.ensures.settled config c.args.saved.now.hub.1 is.0).0)
 
-pub returns-then-eq-clause-heard : goal.returns-then-eq-clause-heard
-returns-then-eq-clause-heard g c =
+pub returns-then-keeps_room-clause-heard : goal.returns-then-keeps_room-clause-heard
+returns-then-keeps_room-clause-heard g c =
     let P = g.R.Renderer.page in let C = g.N.Network.came in let G = g.N.Network.gone in
     let W = g.N.Network.wakes in let F = g.N.Network.is_free in
     let list = c.in_ok-collect.ensures ∙ ap (λ (xs : List ℕ). xs ++ turn_of c.first.result c.args.self.now.peers) c.clear.ensures.items
@@ -180,8 +182,8 @@ returns-clause-heard g c =
 pub returns-in_err-collect-clause-waits : goal.returns-in_err-collect-clause-waits
 returns-in_err-collect-clause-waits g c = waits_nobody c.args.self.now.peers
 
-pub returns-then-eq-clause-minds : goal.returns-then-eq-clause-minds
-returns-then-eq-clause-minds g c =
+pub returns-then-keeps_room-clause-minds : goal.returns-then-keeps_room-clause-minds
+returns-then-keeps_room-clause-minds g c =
     let list = c.in_ok-collect.ensures ∙ ap (λ (xs : List ℕ). xs ++ turn_of c.first.result c.args.self.now.peers) c.clear.ensures.items
     ∙ ap (λ n. turn_of n c.args.self.now.peers) c.first.ensures in
     minded_served c.as_slice.result.now c.args.self.now.peers c.turn.new.peers c.serve.new.self.goes_on
@@ -205,3 +207,20 @@ returns-clause-minds g c =
     c.turn.ensures.others
     (ap (λ (n : NextTurn). n.goes_on) c.serve.ensures ∙ c.goes_on.ensures
     ∙ ap (λ (xs : List ℕ). list_any (λ k. takes_part_at (map.get c.turn.new.peers k)) xs) (c.as_slice-3.ensures.value ∙ sym c.as_slice.ensures.value))
+
+-- where edits wait, nothing is edited
+
+pub returns-in_err-collect-clause-unedited : goal.returns-in_err-collect-clause-unedited
+returns-in_err-collect-clause-unedited g c = λ is. same_is_unedited c.args.saved.now c.args.saved.now refl
+
+pub returns-in_err-turn-clause-unedited : goal.returns-in_err-turn-clause-unedited
+returns-in_err-turn-clause-unedited g c = λ is. c.turn.ensures.unedited is
+
+pub returns-then-keeps_room-clause-unedited : goal.returns-then-keeps_room-clause-unedited
+returns-then-keeps_room-clause-unedited g c = λ is. c.turn.ensures.unedited is
+
+pub returns-in_err-keep_room-clause-unedited : goal.returns-in_err-keep_room-clause-unedited
+returns-in_err-keep_room-clause-unedited g c = λ is. absurd (no_yes _ c.if-keeps_room.false (c.keeps_room.ensures is))
+
+pub returns-clause-unedited : goal.returns-clause-unedited
+returns-clause-unedited g c = λ is. absurd (no_yes _ c.if-keeps_room.false (c.keeps_room.ensures is))

@@ -1,4 +1,4 @@
-use Rattle.std.proofs.Common.{◌≤◌, ℕ, ap, arith, subst, sym, ◌∙◌}
+use Rattle.std.proofs.Common.{refl, ◌≤◌, ℕ, ap, arith, subst, sym, ◌∙◌}
 use Rattle.std.specs.FinMap as map
 use Rattle.doc_server_serving.specs.Hearing.{IsMinded}
 use Rattle.doc_server_serving.specs.declared.next_turn.NextTurn.{NextTurn}
@@ -9,6 +9,7 @@ use Rattle.doc_server_serving.proofs.Going.{goes_join}
 use Rattle.doc_server_serving.proofs.Minding.{minded, minded_on}
 use Rattle.doc_server_serving.proofs.Sites.{all_saved_too, settled_too}
 use Rattle.doc_server_serving.proofs.Turning.{goes_begun, goes_looked, goes_waited}
+use Rattle.doc_server_network.proofs.Leading.{same_is_unedited, unedited_behind}
 use Rattle.doc_server_serving.proofs.server.Server.turn.Goals as goal
 
 pub look-requires-clause-all : goal.look-requires-clause-all
@@ -282,3 +283,47 @@ pub returns-clause-minds : goal.returns-clause-minds
 returns-clause-minds g c =
     λ ends k part. ap (λ (n : NextTurn). n.goes_on) c.hear-2.ensures
     ∙ c.in_ok-end_turn.ensures.minds c.in_ok-serve_ready.ensures.minds k part
+
+-- where edits wait, nothing is edited
+
+pub returns-in_err-wait-clause-unedited : goal.returns-in_err-wait-clause-unedited
+returns-in_err-wait-clause-unedited g c = λ is. same_is_unedited c.args.saved.now c.args.saved.now refl
+
+pub returns-in_err-look-clause-unedited : goal.returns-in_err-look-clause-unedited
+returns-in_err-look-clause-unedited g c = λ is. c.look.ensures.unedited is
+
+pub returns-in_err-serve_ready-clause-unedited : goal.returns-in_err-serve_ready-clause-unedited
+returns-in_err-serve_ready-clause-unedited g c = λ is.
+    unedited_behind c.args.saved.now c.look.new.saved c.serve_ready.new.saved (c.look.ensures.unedited is) (c.serve_ready.ensures.unedited is)
+
+pub returns-then-ends-clause-unedited : goal.returns-then-ends-clause-unedited
+returns-then-ends-clause-unedited g c = λ is.
+    unedited_behind c.args.saved.now c.look.new.saved c.serve_ready.new.saved (c.look.ensures.unedited is) (c.serve_ready.ensures.unedited is)
+
+pub returns-in_err-end_turn-clause-unedited : goal.returns-in_err-end_turn-clause-unedited
+returns-in_err-end_turn-clause-unedited g c = λ is.
+    unedited_behind c.args.saved.now c.serve_ready.new.saved c.end_turn.new.saved
+    (unedited_behind c.args.saved.now c.look.new.saved c.serve_ready.new.saved (c.look.ensures.unedited is)
+    (c.serve_ready.ensures.unedited is))
+    (record { site = c.end_turn.ensures.site; journal = c.end_turn.ensures.journal; unsaved = c.end_turn.ensures.unsaved })
+
+pub returns-clause-unedited : goal.returns-clause-unedited
+returns-clause-unedited g c = λ is.
+    unedited_behind c.args.saved.now c.serve_ready.new.saved c.end_turn.new.saved
+    (unedited_behind c.args.saved.now c.look.new.saved c.serve_ready.new.saved (c.look.ensures.unedited is)
+    (c.serve_ready.ensures.unedited is))
+    (record { site = c.end_turn.ensures.site; journal = c.end_turn.ensures.journal; unsaved = c.end_turn.ensures.unsaved })
+
+-- calls that were made
+
+pub returns-in_err-serve_ready-clause-calls : goal.returns-in_err-serve_ready-clause-calls
+returns-in_err-serve_ready-clause-calls g c = λ k f. c.serve_ready.ensures.calls k (c.wake_told-news.ensures.calls k (c.wait.ensures.calls k f))
+
+pub returns-then-ends-clause-calls : goal.returns-then-ends-clause-calls
+returns-then-ends-clause-calls g c = λ k f. c.serve_ready.ensures.calls k (c.wake_told-news.ensures.calls k (c.wait.ensures.calls k f))
+
+pub returns-in_err-end_turn-clause-calls : goal.returns-in_err-end_turn-clause-calls
+returns-in_err-end_turn-clause-calls g c = λ k f. c.end_turn.ensures.calls k (c.serve_ready.ensures.calls k (c.wake_told-news.ensures.calls k (c.wait.ensures.calls k f)))
+
+pub returns-clause-calls : goal.returns-clause-calls
+returns-clause-calls g c = λ k f. c.end_turn.ensures.calls k (c.serve_ready.ensures.calls k (c.wake_told-news.ensures.calls k (c.wait.ensures.calls k f)))

@@ -1,9 +1,0 @@
--- What leaves a hub's site as it was.
-use Rattle.std.specs.Prelude.{◌≡◌}
-use Rattle.doc_hub.specs.Worlds.{World}
-
--- the site, its media, and how many puts were accepted are as before
-pub record IsSameSite (w v : World) : Type 0 where
-  pub site : v.site ≡ w.site
-  pub media : v.media ≡ w.media
-  pub puts : v.puts ≡ w.puts
