@@ -10,3 +10,4 @@ pub mod HeaderLemmas
 pub mod LawLemmas
 mod ReadingLemmas
 pub mod RecordLemmas
+mod TailLemmas

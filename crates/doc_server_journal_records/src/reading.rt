@@ -14,6 +14,7 @@ use doc_page_parts::bytes::Bytes;
 use doc_page_parts::failure::Memory;
 use doc_page_parts::heap::{Heap, Vec};
 use doc_page_parts::list::List;
+use memchr::memchr;
 
 /// Reads a journal. What is torn behind its closed gate is passed over. All else that isn't whole is damage.
 pub fn read(heap: Heap, bytes: &[u8]) -> Result<Found, ReadError>
@@ -95,11 +96,5 @@ fn is_end(bytes: &[u8]) -> bool
 fn is_tail(bytes: &[u8]) -> bool
     ensures { result ≡ list_all is_shut bytes.now }
 {
-    bytes.iter().all(|byte| is_shut(*byte))
-}
-
-fn is_shut(byte: u8) -> bool
-    ensures { result ≡ is_shut byte }
-{
-    byte != 0xff
+    memchr(0xff, bytes).is_none()
 }

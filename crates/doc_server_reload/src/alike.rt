@@ -1,6 +1,6 @@
 //! What two sites have alike.
 
-ghost use Rattle.std.specs.Prelude.{◌≡◌, ◌++◌, ◌∷◌, [], Some, true, IfOk};
+ghost use Rattle.std.specs.Prelude.{◌≡◌, ◌==◌, ◌&&◌, ◌++◌, ◌∷◌, [], Some, true, not, length, IfOk};
 ghost use Rattle.std.specs.FinMap as map;
 ghost use Rattle.doc_store_readers.specs.Groups.{texts_of};
 ghost use Rattle.doc_store.specs.Names.{aliases_of};
@@ -17,12 +17,9 @@ use doc_store::store::Store;
 pub(crate) fn stands_so(old: &Store, new: &Store, path: &Path) -> Result<bool, Memory>
     ensures { IfOk result (λ so. so ≡ stands_so old.now.site new.now.site path.now) }
 {
-    if old.get(path).is_none() || new.get(path).is_none() {
-        return Ok(false);
-    }
     let names = old.names_of(path)?;
     let others = new.names_of(path)?;
-    Ok(are_same_names(names.as_slice(), others.as_slice()))
+    Ok(have_same_names(names.as_slice(), others.as_slice()))
 }
 
 /// Whether two sites have the same page under a path, or none, whatever its aliases.
@@ -41,6 +38,14 @@ fn is_same_page(page: &Page, other: &Page) -> bool
     ensures { result ≡ same_pages (Some page.now.page) (Some other.now.page) }
 {
     page.groups() == other.groups() && page.text() == other.text()
+}
+
+/// Whether a page has names, and another the same.
+fn have_same_names(names: &[&Path], others: &[&Path]) -> bool
+    ensures { result ≡ (not (length names.now == 0)
+        && same_texts (texts_of names.now) (texts_of others.now)) }
+{
+    !names.is_empty() && are_same_names(names, others)
 }
 
 fn are_same_names(names: &[&Path], others: &[&Path]) -> bool
