@@ -13,10 +13,11 @@ use crate::bad_file::BadFile;
 use crate::except::is_excepted;
 use crate::file_name::{is_page_name, path_in_folder};
 use crate::folder::Folder;
+use crate::folder_reading::FolderReading;
 use crate::growth::push;
 use crate::reason::{Reason, open_reason};
 use crate::taken::Taken;
-use crate::walk::{check_folders, files_in, joined};
+use crate::walk::joined;
 use doc_media::kind::MediaKind;
 use doc_page_parts::bytes::Bytes;
 use doc_page_parts::failure::Memory;
@@ -75,19 +76,14 @@ pub fn read_folder<R: AllocGlobal + Files + Clone + Drop>(
 ) -> Result<List<FolderFile>, Fault>
     ensures { IfOk result (λ files. All (IsFileOf folder.now) files) }
 {
-    let (root, except) = (folder.file.get(), folder.except.get());
-    let names = files_in(rt, heap, folder)?;
-    check_folders(rt, heap, root, except)?;
-    taken.begin_folder();
-    let mut files = Vec::new(heap);
-    for name in names.as_slice() {
-        add_file(rt, heap, folder, name.as_str(), taken, &mut files)?;
-    }
-    Ok(List::new(files))
+    let mut reading = FolderReading::begin(heap)?;
+    reading.read_all(rt, heap, folder, taken)?;
+    let (files, _seen) = reading.end();
+    Ok(files)
 }
 
 /// Adds a file, where it isn't passed over.
-fn add_file<R: AllocGlobal + Files + Clone + Drop>(
+pub(crate) fn add_file<R: AllocGlobal + Files + Clone + Drop>(
     rt: &R,
     heap: Heap,
     folder: &Folder,

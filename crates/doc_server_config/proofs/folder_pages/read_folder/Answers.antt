@@ -3,12 +3,8 @@ use Rattle.std.proofs.lemmas.List.Elements.{All-nil, All-same}
 use Rattle.doc_server_config.specs.FolderPages.{IsFileOf}
 use Rattle.doc_server_config.proofs.folder_pages.read_folder.Goals as goal
 
-pub loop-name-init : goal.loop-name-init
-loop-name-init g c =
-    All-same (IsFileOf c.args.folder.now) c.new-files.result.items [] c.new-files.ensures.items (All-nil (IsFileOf c.args.folder.now))
-
-pub loop-name-preserved : goal.loop-name-preserved
-loop-name-preserved g c = c.in_ok-add_file.ensures c.loop-name.invariant
-
 pub returns : goal.returns
-returns g c = All-same (IsFileOf c.args.folder.now) c.new.result c.loop-name.files.items c.new.ensures c.loop-name.invariant
+returns g c =
+    let P = IsFileOf c.args.folder.now in
+    All-same P c.end-files.result.0 c.read_all.new.self.files.items c.end-files.ensures
+    (c.in_ok-read_all.ensures (All-same P c.in_ok-reading.reading.files.items [] c.in_ok-reading.ensures (All-nil P)))
