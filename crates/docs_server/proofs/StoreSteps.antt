@@ -9,11 +9,13 @@ use Rattle.doc_store.specs.Store.{StoreState, empty_store, put_into}
 use Rattle.doc_server_script.specs.Replays.{unless_refused}
 use Rattle.doc_server_config.specs.declared.config.SiteConfig.{SiteConfig}
 use Rattle.doc_server_config.specs.declared.page_row.PageRow.{PageRow}
+use Rattle.doc_server_config.specs.declared.readme.Move.{Move}
 use Rattle.doc_server_streams.specs.declared.fault.Fault.{Fault}
 use Rattle.doc_server_streams.specs.declared.fault.Fault.TheVariants as faults
 use Rattle.doc_server_restore.specs.Restores.{unstamped}
 use Rattle.doc_server.specs.Sites.{accepted, site_world, text_of, texts_behind, with_page, with_pages, settings_of}
 use Rattle.docs_server.specs.Compacting.{store_in, stored_page, stored_pages}
+use Rattle.docs_server.specs.Reloading.{IsConfigured, configured_pages, moved_pages}
 
 -- ---- one page
 
@@ -133,3 +135,21 @@ site_refused config texts pages before fault can same new (why, none) =
     (ap (λ ps. stored_pages (unstamped empty_store) ps texts) (sym same)
     ∙ (ap (λ s. stored_pages (unstamped s) pages texts) (sym new) ∙ none))
     ∙ ap (λ e. Err e) (sym why)))
+
+-- ---- the pages behind their moves
+
+-- what a configuration gives is some configuration's
+pub as_configured : (config : SiteConfig) (texts : List (List ℕ)) (moves : List Move) (pages : StoreState)
+    → configured_pages config texts moves ≡ Some (unstamped pages) → IsConfigured pages
+as_configured config texts moves pages is = by (store_in (site_world config texts)) refl
+  where
+    by : (found : Result StoreState Fault) → store_in (site_world config texts) ≡ found → IsConfigured pages
+    by (Err fault) none = absurd (none_some (unstamped pages) (ap (moved_pages moves) (sym none) ∙ is))
+    by (Ok store) stands = record {
+      config = config;
+      texts = texts;
+      moves = moves;
+      store = store;
+      stands = stands;
+      moved = ap (moved_pages moves) (sym stands) ∙ is;
+    }

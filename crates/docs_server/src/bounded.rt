@@ -5,9 +5,10 @@ ghost use Rattle.doc_server_config.specs.Overlaps.{first_overlap, media_paths, p
 ghost use Rattle.docs_server.specs.Listening.{HasOthers, HasOwnPaths, IsOwn};
 
 use crate::files::{Pages, Site, document_of, read_file, site_of};
-use crate::folder_rows::{FolderRows, read_folders};
+use crate::folder_rows::FolderRows;
 use crate::gathered_media::{gathered_media, paths_of_media};
 use crate::listen_fault::ListenFault;
+use crate::rows_reading::RowsReading;
 use crate::told_faults::tell_faults;
 use crate::written::{Written, written_in};
 use doc_media::media::Media;
@@ -56,11 +57,50 @@ struct Gathered {
 }
 
 /// A configuration that is read up to its folders.
+#[derive(Drop)]
 pub struct Opened {
     site: Site,
     bounds: Bounds,
     folders: List<Folder>,
     names: Names,
+}
+
+impl Opened {
+    /// Begins to read its folders. `Bad` is the first bad file of a folder that doesn't pass over such, unless all are asked for.
+    pub fn begin_folders<R: AllocGlobal + Clone + Drop + Files>(
+        &self,
+        heap: Heap,
+        all: bool,
+    ) -> Result<RowsReading<R>, Memory> {
+        let rows = self.site.pages.config.pages.get();
+        RowsReading::begin(heap, rows, self.bounds.media_bytes, all)
+    }
+
+    /// Reads on in its folders. True: all is read.
+    pub fn read_on<R: AllocGlobal + Clone + Drop + Files>(
+        &self,
+        rt: &R,
+        heap: Heap,
+        reading: &mut RowsReading<R>,
+    ) -> Result<bool, ListenFault> {
+        reading.part(rt, heap, self.folders.get())
+    }
+
+    /// What its folders hold.
+    fn read_folders<R: AllocGlobal + Clone + Drop + Files>(
+        &self,
+        rt: &R,
+        heap: Heap,
+        all: bool,
+    ) -> Result<FolderRows, ListenFault> {
+        let mut reading = self.begin_folders(heap, all)?;
+        for _ in 0..u64::MAX {
+            if self.read_on(rt, heap, &mut reading)? {
+                break;
+            }
+        }
+        Ok(reading.end())
+    }
 }
 
 /// The document of the configuration of this name, and its site, its folders' pages behind its own, with its bounds. Folders are read last;
@@ -86,6 +126,15 @@ pub fn bounded_of<R: AllocGlobal + Clone + Drop + Files>(
     ensures { IfOk result
         (λ bounded. HasOthers opened.site.pages.config.pages bounded.site.pages.config.pages) }
 {
+    let rows = opened.read_folders(rt, heap, false)?;
+    bounded_with(heap, opened, rows)
+}
+
+/// The same where what its folders hold is read.
+pub fn bounded_with(heap: Heap, opened: Opened, found: FolderRows) -> Result<Bounded, ListenFault>
+    ensures { IfOk result
+        (λ bounded. HasOthers opened.site.pages.config.pages bounded.site.pages.config.pages) }
+{
     let Opened {
         site,
         bounds,
@@ -99,7 +148,7 @@ pub fn bounded_of<R: AllocGlobal + Clone + Drop + Files>(
         media_paths,
         moves,
         passed,
-    } = with_folders(rt, heap, pages, folders.get(), bounds.media_bytes)?;
+    } = with_folders(heap, pages, folders.get(), found)?;
     Ok(Bounded {
         site: Site { pages, entities },
         bounds,
@@ -118,15 +167,7 @@ pub fn read_all_folders<R: AllocGlobal + Clone + Drop + Eprint + Files>(
 ) -> Result<FolderRows, ListenFault> {
     let heap = rt.alloc();
     let (_, opened) = open(rt, heap, name)?;
-    let Opened {
-        site,
-        bounds,
-        folders,
-        names: _,
-    } = opened;
-    let Site { pages, entities: _ } = site;
-    let rows = pages.config.pages.get();
-    read_folders(rt, heap, rows, folders.get(), bounds.media_bytes, true)
+    opened.read_folders(rt, heap, true)
 }
 
 /// The document of the configuration of this name, and what it says, with the files that it names.
@@ -189,12 +230,11 @@ pub fn opened_of<R: Files>(rt: &R, heap: Heap, written: Written) -> Result<Opene
 }
 
 /// The pages with those of folders behind them, and the folders' media.
-fn with_folders<R: AllocGlobal + Files + Clone + Drop>(
-    rt: &R,
+fn with_folders(
     heap: Heap,
     pages: Pages,
     folders: &[Folder],
-    media_bytes: usize,
+    found: FolderRows,
 ) -> Result<Gathered, ListenFault>
     ensures { IfOk result
         (λ all. HasOthers pages.config.pages all.pages.config.pages) }
@@ -210,7 +250,6 @@ fn with_folders<R: AllocGlobal + Files + Clone + Drop>(
         browse,
     } = config;
     let rows = pages.into_inner();
-    let found = read_folders(rt, heap, &rows, folders, media_bytes, false)?;
     let FolderRows {
         rows: others,
         media,

@@ -20,6 +20,7 @@ use std::fs::File;
 use std::rt::Files;
 
 /// A configured site, with what stands in the files that its configuration names.
+#[derive(Drop)]
 pub struct Site {
     pub pages: Pages,
     /// The built-in entities, and those of the table that is named.

@@ -4,19 +4,15 @@ ghost use Rattle.std.specs.Prelude.{◌≡◌};
 ghost use Rattle.docs_server.specs.Listening.{row_of};
 
 use crate::listen_fault::ListenFault;
-use crate::resolved_folder::read_resolved;
 use doc_page_parts::failure::Memory;
 use doc_page_parts::heap::{Heap, Vec};
 use doc_page_parts::list::List;
 use doc_page_parts::path::Path;
 use doc_server_config::bad_file::BadFile;
-use doc_server_config::folder::Folder;
 use doc_server_config::folder_pages::{FolderFile, FolderMedium, FolderPage};
 use doc_server_config::folder_rules::FolderRules;
 use doc_server_config::page_row::{PageRow, Source};
 use doc_server_config::readme::{Move, index_move};
-use doc_server_config::taken::Taken;
-use std::rt::Files;
 
 /// What the folders of a configuration hold.
 #[derive(Drop)]
@@ -28,37 +24,20 @@ pub struct FolderRows {
     pub bad: Vec<BadFile>,
 }
 
-/// The pages and the media of folders, beside the pages of the configuration's rows. The media have so many bytes together at most.
-/// `Bad` is the first bad file of a folder that doesn't pass over such, unless all are asked for.
-pub fn read_folders<R: AllocGlobal + Files + Clone + Drop>(
-    rt: &R,
-    heap: Heap,
-    rows: &[PageRow],
-    folders: &[Folder],
-    media_bytes: usize,
-    all: bool,
-) -> Result<FolderRows, ListenFault> {
-    let mut taken = Taken::beside(heap, rows, media_bytes)?;
-    let mut found = FolderRows {
-        rows: Vec::new(heap),
-        media: Vec::new(heap),
-        moves: Vec::new(heap),
-        bad: Vec::new(heap),
-    };
-    for folder in folders {
-        let files = read_resolved(rt, heap, folder, &mut taken)?;
-        let skips = all || folder.rules.skips;
-        let rules = FolderRules {
-            skips,
-            ..folder.rules
-        };
-        add_files(heap, &mut found, files, rules)?;
+impl FolderRows {
+    /// What no folders hold.
+    pub fn none(heap: Heap) -> FolderRows {
+        FolderRows {
+            rows: Vec::new(heap),
+            media: Vec::new(heap),
+            moves: Vec::new(heap),
+            bad: Vec::new(heap),
+        }
     }
-    Ok(found)
 }
 
-/// Adds the files of a folder.
-fn add_files(
+/// Adds the files of a folder. `Bad` is the first bad file, where the folder doesn't pass over such.
+pub fn add_files(
     heap: Heap,
     found: &mut FolderRows,
     files: List<FolderFile>,

@@ -18,6 +18,7 @@ use crate::listen_fault::ListenFault;
 use crate::monitors::Monitors;
 use crate::moving::make_moves;
 use crate::reloading::Reloading;
+use crate::reloading_in_steps::ReloadingInSteps;
 use crate::shared::Shared;
 use crate::status::status_of;
 use crate::system::System;
@@ -111,7 +112,7 @@ fn listen_configured<
     let login = takes_logins(&pages.config);
     let form = lines_of(command.log, Askers { names, login });
     let media_count = media_paths.get().len();
-    let mut source = Reloading::new(rt, command.config, document, media_count, &shared)?;
+    let config = Reloading::new(rt, command.config, document, media_count, &shared)?;
     let front = pages.config.markdown.front;
     let renderer: CommonMark<L> = CommonMark::with_front(entities, blank, front);
     let ready = Ready {
@@ -124,9 +125,12 @@ fn listen_configured<
         standing: &shared.standing,
     };
     match command.follow {
-        None => listen_with(rt, renderer, ready, bounds, command, told, &mut source),
+        None => {
+            let mut source = ReloadingInSteps::new(config);
+            listen_with(rt, renderer, ready, bounds, command, told, &mut source)
+        }
         Some(name) => follow_with(
-            rt, renderer, ready, bounds, command, told, name, source, &shared,
+            rt, renderer, ready, bounds, command, told, name, config, &shared,
         ),
     }
 }

@@ -15,6 +15,9 @@ pub enum ReloadFault {
     /// Something else than readers and pages has changed in it: what this key says.
     #[error("needs a restart: `{}`", .0.get())]
     Changed(Text),
+    /// Files of its folders changed each time that they were read.
+    #[error("the files are changing")]
+    Changing,
 }
 
 impl From<ListenFault> for ReloadFault {

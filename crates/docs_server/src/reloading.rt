@@ -3,13 +3,14 @@
 ghost use Rattle.std.specs.Prelude.{◌≡◌, IfOk, None, OnErr};
 ghost use Rattle.docs_server.specs.Reloading.{IsConfigured};
 
-use crate::bounded::{Bounded, bounded_of, opened_of, written_of};
-use crate::files::{Pages, Site, read_file};
+use crate::bounded::{Bounded, Opened, bounded_of, bounded_with, opened_of, written_of};
+use crate::files::{Site, read_file};
+use crate::gathered::{Gathered, Made, Pending};
 use crate::gathered_media::are_served;
 use crate::listen_fault::ListenFault;
+use crate::reading::{ReadFolders, Reading};
 use crate::reload_fault::ReloadFault;
 use crate::shared::Shared;
-use crate::site_store::configured_store;
 use crate::told_faults::tell_refusal;
 use crate::told_folders::tell_passed;
 use crate::written::Written;
@@ -19,12 +20,8 @@ use doc_page_parts::heap::Heap;
 use doc_page_parts::text::Text;
 use doc_server_config::document::Document;
 use doc_server_journal::clock::seconds_of;
-use doc_server_log_names::names::Names;
-use doc_server_serving::given::{Configuration, Given};
-use doc_server_serving::net::follow_fault::FollowFault;
-use doc_server_serving::net::reload_fault::Refusal;
+use doc_server_serving::given::Configuration;
 use doc_server_serving::net::reloaded::Reloaded;
-use doc_server_serving::source::Source;
 use doc_server_streams::input::Input as _;
 use doc_server_streams::read_from::ReadFrom;
 use std::fmt::Display;
@@ -54,8 +51,8 @@ const MEDIA: &str = "media";
 /// A configuration that is served, and that can be read anew.
 #[derive(Drop)]
 pub struct Reloading<'a, P> {
-    rt: &'a P,
-    heap: Heap,
+    pub rt: &'a P,
+    pub heap: Heap,
     /// The name of its file.
     name: Text,
     /// What it is as it is served.
@@ -63,18 +60,11 @@ pub struct Reloading<'a, P> {
     /// How many media are served.
     media_count: usize,
     /// What was given, until it is told what came of it.
-    given: Option<Pending>,
+    pub given: Option<Pending>,
     /// How often something was given.
-    count: u64,
+    pub count: u64,
     /// Where the log finds the names of new readers, and the door what stands.
     shared: &'a Shared,
-}
-
-/// What was given, and isn't served yet.
-#[derive(Drop)]
-struct Pending {
-    document: Document,
-    names: Names,
 }
 
 impl<'a, P: AllocGlobal + Clock + Clone + Drop + Eprint + Files + Input> Reloading<'a, P> {
@@ -119,8 +109,8 @@ impl<'a, P: AllocGlobal + Clock + Clone + Drop + Eprint + Files + Input> Reloadi
         asks
     }
 
-    /// What the file and those that it names give as they are now. Where it is refused all stays as it was, and its faults are told behind
-    /// a word, where there is one.
+    /// What the file and those that it names give as they are now, all read at once. Where it is refused all stays as it was, and its
+    /// faults are told behind a word, where there is one.
     pub fn reload(
         &mut self,
         served: &Option<Media>,
@@ -130,9 +120,19 @@ impl<'a, P: AllocGlobal + Clock + Clone + Drop + Eprint + Files + Input> Reloadi
         ensures count { self.new.count ≡ self.old.count }
         ensures refused { OnErr result (self.new.document ≡ self.old.document) }
     {
+        let (document, opened) = self.open(word)?;
+        let bounded = bounded_of(self.rt, self.heap, opened)?;
+        let gathered = self.take(served, document, bounded)?;
+        let made = gathered.make(self.heap).map_err(ListenFault::from)?;
+        Ok(self.give(made))
+    }
+
+    /// The document that the file is now, and what it says, read up to its folders. Where it is refused its faults are told behind a word,
+    /// where there is one.
+    fn open(&self, word: Option<&str>) -> Result<(Document, Opened), ReloadFault> {
         let text = read_file(self.rt, self.heap, self.name.get()).map_err(ListenFault::from)?;
         match written_of(self.heap, &text) {
-            Ok((document, written)) => self.read_all(served, document, written),
+            Ok((document, written)) => self.open_files(document, written),
             Err(fault) => {
                 if let Some(word) = word {
                     tell_refusal(self.rt, self.heap, word, self.name.get(), &text);
@@ -142,36 +142,47 @@ impl<'a, P: AllocGlobal + Clock + Clone + Drop + Eprint + Files + Input> Reloadi
         }
     }
 
-    /// What a document and the files that it names give. Where something else than readers and pages has changed it is refused.
-    fn read_all(
-        &mut self,
-        served: &Option<Media>,
+    /// A document and what it says, with the files that it names. Where something else than readers and pages has changed it is refused.
+    fn open_files(
+        &self,
         document: Document,
         written: Written,
-    ) -> Result<Configuration, ReloadFault>
-        ensures given { IfOk result (λ given. IsConfigured given.pages) }
-        ensures count { self.new.count ≡ self.old.count }
-        ensures refused { OnErr result (self.new.document ≡ self.old.document) }
-    {
+    ) -> Result<(Document, Opened), ReloadFault> {
         if let Some(key) = changed_key(self.heap, &self.document.table, &document.table)? {
             return Err(ReloadFault::Changed(key));
         }
         let opened = opened_of(self.rt, self.heap, written)?;
-        let bounded = bounded_of(self.rt, self.heap, opened)?;
+        Ok((document, opened))
+    }
+
+    /// Begins to read the file and those that it names, some at a time. Where it is refused its faults are told.
+    pub fn begin(&self) -> Result<Reading<P>, ReloadFault> {
+        let (document, opened) = self.open(Some(REFUSED))?;
+        Ok(Reading::begin(self.heap, document, opened)?)
+    }
+
+    /// What a document and the files that it names give, which are read. Where other media stand than are served it is refused.
+    pub fn end(
+        &self,
+        served: &Option<Media>,
+        reading: Reading<P>,
+    ) -> Result<Gathered, ReloadFault> {
+        let ReadFolders {
+            document,
+            opened,
+            rows,
+        } = reading.end();
+        let bounded = bounded_with(self.heap, opened, rows)?;
         self.take(served, document, bounded)
     }
 
     /// What a configuration gives, whose files are read. Where other media stand than are served it is refused.
     fn take(
-        &mut self,
+        &self,
         served: &Option<Media>,
         document: Document,
         bounded: Bounded,
-    ) -> Result<Configuration, ReloadFault>
-        ensures given { IfOk result (λ given. IsConfigured given.pages) }
-        ensures count { self.new.count ≡ self.old.count }
-        ensures refused { OnErr result (self.new.document ≡ self.old.document) }
-    {
+    ) -> Result<Gathered, ReloadFault> {
         let Bounded {
             site,
             bounds: _,
@@ -181,19 +192,29 @@ impl<'a, P: AllocGlobal + Clock + Clone + Drop + Eprint + Files + Input> Reloadi
             passed,
             names,
         } = bounded;
-        let Site { pages, entities: _ } = site;
         let paths = media_paths.get();
         if paths.len() != self.media_count || !are_served(served, &media, paths) {
             return Err(ReloadFault::Changed(Text::copy_of(self.heap, MEDIA)?));
         }
         tell_passed(self.rt, passed.get());
-        let store = configured_store(self.heap, &pages, moves.get()).map_err(ListenFault::from)?;
-        let Pages { config, texts: _ } = pages;
-        self.given = Some(Pending { document, names });
-        Ok(Configuration {
-            readers: config.readers,
-            pages: store,
+        let Site { pages, entities: _ } = site;
+        Ok(Gathered {
+            pending: Pending { document, names },
+            pages,
+            moves,
         })
+    }
+
+    /// What is served, once what was made is in force.
+    pub fn give(&mut self, made: Made) -> Configuration
+        ensures given { IsConfigured result.pages }
+        ensures count { self.new.count ≡ self.old.count }
+        ensures document { self.new.document ≡ self.old.document }
+    {
+        let Made { pending, pages } = made;
+        self.given = Some(pending);
+        let (readers, pages) = pages.end();
+        Configuration { readers, pages }
     }
 
     /// Tells what came of a reload: it is served from here on.
@@ -259,55 +280,9 @@ impl<'a, P: AllocGlobal + Clock + Clone + Drop + Eprint + Files + Input> Reloadi
         self.shared.names.set(Some(names));
         has_changed
     }
-}
 
-impl<P: AllocGlobal + Clock + Clone + Drop + Eprint + Files + Input> Source for Reloading<'_, P> {
-    ghost use Rattle.std.specs.Prelude.{◌≡◌, ⊤, None, false};
-    ghost use Rattle.docs_server.specs.Reloading.{HasAnswered};
-
-    ghost follows = { λ _. false };
-
-    ghost answered = { λ r answer. HasAnswered r.count answer };
-
-    ghost told = { λ r _. r.given ≡ None };
-
-    fn follows(&self) -> bool {
-        false
-    }
-
-    fn is_busy(&self) -> bool {
-        false
-    }
-
-    fn hear(
-        &mut self,
-        media: &Option<Media>,
-        has_input: bool,
-    ) -> Result<Option<Given>, FollowFault> {
-        let is_asked = has_input && self.is_asked();
-        if !is_asked {
-            return Ok(None);
-        }
-        match self.reload(media, Some(REFUSED)) {
-            Ok(configuration) => {
-                self.count = self.count.saturating_add(1);
-                Ok(Some(Given::Configuration(configuration)))
-            }
-            Err(fault) => {
-                self.refuse(&fault);
-                Ok(None)
-            }
-        }
-    }
-
-    fn tell(&mut self, outcome: Result<Reloaded, Refusal>) {
-        match outcome {
-            Ok(reloaded) => self.tell_served(reloaded),
-            Err(refusal) => self.refuse(&refusal),
-        }
-    }
-
-    fn note(&mut self, pages: usize, journal_bytes: Option<usize>) {
+    /// A turn has ended: so many pages stand, and where there is a journal its records end behind so many bytes.
+    pub fn note(&self, pages: usize, journal_bytes: Option<usize>) {
         self.shared.tell_standing(pages, journal_bytes);
     }
 }

@@ -1,13 +1,15 @@
-//! Folders that are named by a link. What one look finds is all below the folder that the name leads to as the look begins: where the link
-//! is switched meanwhile, the look has no part of what it leads to then.
+//! Folders that are named by a link. What is read of one is all below the folder that the name leads to as the reading begins: where the
+//! link is switched meanwhile, nothing is read of what it leads to then.
 
+use crate::looking::Looked;
 use doc_page_parts::failure::Memory;
 use doc_page_parts::heap::{Heap, String, Vec};
 use doc_page_parts::list::List;
 use doc_page_parts::text::Text;
 use doc_server_config::bad_file::{BadFile, push_shown};
 use doc_server_config::folder::Folder;
-use doc_server_config::folder_pages::{FolderFile, read_folder};
+use doc_server_config::folder_pages::FolderFile;
+use doc_server_config::folder_reading::FolderReading;
 use doc_server_config::reason::Reason;
 use doc_server_config::taken::Taken;
 use doc_server_streams::fault::Fault;
@@ -47,38 +49,77 @@ impl Names<'_> {
     }
 }
 
-/// The files of a folder, all from the folder that its name leads to now. Whatever is told of them names the folder as it is written.
-pub fn read_resolved<R: AllocGlobal + Files + Clone + Drop>(
-    rt: &R,
-    heap: Heap,
-    folder: &Folder,
-    taken: &mut Taken,
-) -> Result<List<FolderFile>, Fault> {
-    let written = folder.file.get();
-    match rt.canonicalize(heap, written) {
-        Ok(real) => read_at(rt, heap, folder, real.as_str(), taken),
-        Err(e) if e.kind() == ErrorKind::OutOfMemory => Err(Fault::Memory),
-        Err(_) => read_folder(rt, heap, folder, taken),
+/// A folder that is read a part at a time, all from the folder that its name led to as that began.
+#[derive(Drop)]
+pub struct ResolvedReading<R: Files> {
+    /// Its name as it is written.
+    written: Text,
+    /// The folder that the name led to.
+    folder: Folder,
+    reading: FolderReading<R>,
+}
+
+/// A folder that was read.
+#[derive(Drop)]
+pub struct ResolvedFiles {
+    /// Its files. Whatever is told of them names the folder as it is written.
+    pub files: List<FolderFile>,
+    pub looked: Looked,
+}
+
+impl<R: AllocGlobal + Files + Clone + Drop> ResolvedReading<R> {
+    /// A folder of which nothing is read.
+    pub fn begin(rt: &R, heap: Heap, folder: &Folder) -> Result<ResolvedReading<R>, Memory> {
+        let written = folder.file.copy(heap)?;
+        let folder = led_to(rt, heap, folder)?;
+        Ok(ResolvedReading {
+            written,
+            folder,
+            reading: FolderReading::begin(heap)?,
+        })
+    }
+
+    /// Reads on in the folder. True: all is read.
+    pub fn part(&mut self, rt: &R, heap: Heap, taken: &mut Taken) -> Result<bool, Fault> {
+        match self.reading.part(rt, heap, &self.folder, taken) {
+            Err(Fault::CannotRead(name)) => {
+                let names = Names {
+                    written: self.written.get(),
+                    real: self.folder.file.get(),
+                };
+                Err(Fault::CannotRead(names.written_of(heap, name.as_str())?))
+            }
+            part => part,
+        }
+    }
+
+    /// What was read.
+    pub fn end(self, heap: Heap) -> Result<ResolvedFiles, Memory> {
+        let ResolvedReading {
+            written,
+            folder,
+            reading,
+        } = self;
+        let (files, seen) = reading.end();
+        let names = Names {
+            written: written.get(),
+            real: folder.file.get(),
+        };
+        let files = told_as_written(heap, names, files)?;
+        Ok(ResolvedFiles {
+            files,
+            looked: Looked { folder, seen },
+        })
     }
 }
 
-/// The same, from a folder that its name has led to.
-fn read_at<R: AllocGlobal + Files + Clone + Drop>(
-    rt: &R,
-    heap: Heap,
-    folder: &Folder,
-    real: &str,
-    taken: &mut Taken,
-) -> Result<List<FolderFile>, Fault> {
+/// The folder that the name of one leads to; where that can't be told, the folder itself.
+fn led_to<R: AllocGlobal + Files>(rt: &R, heap: Heap, folder: &Folder) -> Result<Folder, Memory> {
     let written = folder.file.get();
-    let folder = moved_to(heap, folder, real)?;
-    match read_folder(rt, heap, &folder, taken) {
-        Ok(files) => Ok(told_as_written(heap, Names { written, real }, files)?),
-        Err(Fault::CannotRead(name)) => {
-            let names = Names { written, real };
-            Err(Fault::CannotRead(names.written_of(heap, name.as_str())?))
-        }
-        Err(fault) => Err(fault),
+    match rt.canonicalize(heap, written) {
+        Ok(real) => moved_to(heap, folder, real.as_str()),
+        Err(e) if e.kind() == ErrorKind::OutOfMemory => Err(Memory),
+        Err(_) => moved_to(heap, folder, written),
     }
 }
 

@@ -4,7 +4,7 @@ ghost use Rattle.std.specs.Prelude.{◌≡◌, ◌≢◌, Some, None, Ok, Err, I
 ghost use Rattle.doc_hub.specs.Worlds.{is_capacity};
 ghost use Rattle.doc_server_restore.specs.Restores.{unstamped};
 ghost use Rattle.doc_server.specs.Sites.{site_world, text_of, texts_behind};
-ghost use Rattle.docs_server.specs.Reloading.{IsConfigured};
+ghost use Rattle.docs_server.specs.Reloading.{IsConfigured, configured_pages};
 ghost use Rattle.docs_server.specs.Compacting.{store_in, stored_page, stored_pages};
 
 use crate::files::Pages;
@@ -21,7 +21,9 @@ use doc_store::store::Store;
 
 /// The pages of a configured site, behind the moves that are made on them, in a store of their own.
 pub fn configured_store(heap: Heap, pages: &Pages, moves: &[Move]) -> Result<Store, Fault>
-    ensures { IfOk result (λ store. IsConfigured store) }
+    ensures pages { IfOk result (λ store.
+        configured_pages pages.now.config pages.now.texts moves.now ≡ Some (unstamped store)) }
+    ensures configured { IfOk result (λ store. IsConfigured store) }
 {
     let mut store = site_store(heap, &pages.config, pages.texts.get())?;
     make_moves(&mut store, moves)?;

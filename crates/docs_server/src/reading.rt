@@ -1,0 +1,115 @@
+//! A configuration whose folders are read a part at a time.
+
+use crate::bounded::Opened;
+use crate::folder_rows::FolderRows;
+use crate::listen_fault::ListenFault;
+use crate::looking::{Look, Looking};
+use crate::reload_fault::ReloadFault;
+use crate::rows_reading::RowsReading;
+use doc_page_parts::failure::Memory;
+use doc_page_parts::heap::Heap;
+use doc_server_config::document::Document;
+use std::rt::Files;
+
+/// How often the folders are read again where files of theirs have changed meanwhile.
+const MORE_TRIES: u32 = 8;
+
+/// A configuration whose folders are read a part at a time. Behind the last of their files all are looked at once more: where one isn't as
+/// it was, all are read again.
+#[derive(Drop)]
+pub struct Reading<R: Files> {
+    document: Document,
+    opened: Opened,
+    rows: RowsReading<R>,
+    /// Whether all is read, and the look at it behind that.
+    is_read: bool,
+    looking: Looking<R>,
+    /// How often all may still be read again.
+    tries: u32,
+}
+
+/// A configuration whose folders were read.
+pub struct ReadFolders {
+    pub document: Document,
+    pub opened: Opened,
+    pub rows: FolderRows,
+}
+
+impl<R: AllocGlobal + Files + Clone + Drop> Reading<R> {
+    /// Nothing of the folders is read yet.
+    pub fn begin(heap: Heap, document: Document, opened: Opened) -> Result<Reading<R>, Memory> {
+        let rows = opened.begin_folders(heap, false)?;
+        Ok(Reading {
+            document,
+            opened,
+            rows,
+            is_read: false,
+            looking: Looking::new(),
+            tries: MORE_TRIES,
+        })
+    }
+
+    /// Reads on. True: all is read, and as it was. `Changing` says that files changed each time that they were read, any other fault what
+    /// is wrong with one the last time.
+    pub fn part(&mut self, rt: &R, heap: Heap) -> Result<bool, ReloadFault> {
+        if self.is_read {
+            return self.look_on(rt, heap);
+        }
+        self.read_on(rt, heap)?;
+        Ok(false)
+    }
+
+    /// Reads more of the folders. Where one of them or of their files can't be read, which may have come or gone meanwhile, all are read
+    /// again.
+    fn read_on(&mut self, rt: &R, heap: Heap) -> Result<(), ReloadFault> {
+        match self.opened.read_on(rt, heap, &mut self.rows) {
+            Ok(is_read) => {
+                self.is_read = is_read;
+                Ok(())
+            }
+            Err(fault) => self.begin_again(heap, ReloadFault::from(fault)),
+        }
+    }
+
+    /// Looks at more of them once more. True: all are as they were.
+    fn look_on(&mut self, rt: &R, heap: Heap) -> Result<bool, ReloadFault> {
+        let look = self.looking.part(rt, heap, self.rows.looked());
+        match look.map_err(ListenFault::from)? {
+            Look::Goes => Ok(false),
+            Look::Same => Ok(true),
+            Look::Changed => {
+                self.begin_again(heap, ReloadFault::Changing)?;
+                Ok(false)
+            }
+        }
+    }
+
+    /// Begins again, unless that was done so often that this fault is told.
+    fn begin_again(&mut self, heap: Heap, fault: ReloadFault) -> Result<(), ReloadFault> {
+        let Some(tries) = self.tries.checked_sub(1) else {
+            return Err(fault);
+        };
+        self.rows = self.opened.begin_folders(heap, false)?;
+        self.looking = Looking::new();
+        self.is_read = false;
+        self.tries = tries;
+        Ok(())
+    }
+
+    /// What was read.
+    pub fn end(self) -> ReadFolders {
+        let Reading {
+            document,
+            opened,
+            rows,
+            is_read: _,
+            looking: _,
+            tries: _,
+        } = self;
+        ReadFolders {
+            document,
+            opened,
+            rows: rows.end(),
+        }
+    }
+}
