@@ -20,6 +20,10 @@ media_limit = 10000
 abbrev pub page_of : Medium → Page
 page_of medium = record { groups = medium.groups; text = medium.bytes }
 
+-- the media of these entries
+abbrev pub held_by : List (List ℕ × Medium) → TextMap Medium
+held_by entries = map.from_entries entries
+
 -- the media as pages
 abbrev pub pages_of : TextMap Medium → TextMap Page
 pages_of media = map_values page_of media

@@ -1,12 +1,14 @@
 //! Media by their paths.
 
-ghost use Rattle.std.specs.Prelude.{◌≡◌, OnOk, OnErr, option_copied};
+ghost use Rattle.std.specs.Prelude.{◌≡◌, IfOk, OnOk, OnErr, option_copied};
 ghost use Rattle.std.specs.FinMap as map;
+ghost use Rattle.doc_media.specs.Held.{held_by};
 
 use crate::medium::Medium;
 use doc_page_parts::failure::Memory;
 use doc_page_parts::heap::{BTreeMap, Heap};
 use doc_page_parts::path::Path;
+use std::collections::btree_map::Keys;
 use std::marker::Model;
 
 /// Media by their paths. Contracts see the map.
@@ -56,6 +58,21 @@ impl HeldMedia {
         self.entries.get(path)
     }
 
+    /// The paths of the media, in their order.
+    pub fn paths(&self) -> Keys<'_, Path, Medium>
+        ensures { result ≡ map.keys self.now }
+    {
+        self.entries.keys()
+    }
+
+    pub fn copy(&self, heap: Heap) -> Result<HeldMedia, Memory>
+        ensures { IfOk result (λ copy. copy ≡ self.now) }
+    {
+        Ok(HeldMedia {
+            entries: copy_of(heap, &self.entries)?,
+        })
+    }
+
     /// Sets the medium of a path.
     pub fn insert(&mut self, path: Path, medium: Medium) -> Result<(), Memory>
         ensures ok { OnOk result (self.new ≡ map.insert self.old path medium) }
@@ -64,4 +81,17 @@ impl HeldMedia {
         self.entries.insert(path, medium)?;
         Ok(())
     }
+}
+
+/// The same media by the same paths.
+fn copy_of(heap: Heap, media: &BTreeMap<Path, Medium>) -> Result<BTreeMap<Path, Medium>, Memory>
+    ensures { IfOk result (λ copies. held_by copies.entries ≡ held_by media.now.entries) }
+{
+    let mut copies = BTreeMap::new(heap);
+    for (path, medium) in media.iter() {
+        let key = path.copy(heap)?;
+        let copy = medium.copy(heap)?;
+        copies.insert(key, copy)?;
+    }
+    Ok(copies)
 }

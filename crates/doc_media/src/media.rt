@@ -1,6 +1,6 @@
 //! The media of a site.
 
-ghost use Rattle.std.specs.Prelude.{◌≡◌, Some, IfSome, OnOk, OnErr, option_map};
+ghost use Rattle.std.specs.Prelude.{◌≡◌, Some, IfOk, IfSome, OnOk, OnErr, option_map};
 ghost use Rattle.std.specs.FinMap as map;
 ghost use Rattle.doc_media.specs.Held.{added_to, fits, fits_in, page_of};
 ghost use Rattle.doc_media.specs.Kinds.{kind_of};
@@ -16,6 +16,9 @@ use doc_page_parts::heap::Heap;
 use doc_page_parts::path::Path;
 use doc_store_readers::groups::Groups;
 use doc_store_readers::reader::Reader;
+use std::collections::btree_map::Keys;
+use std::fmt;
+use std::fmt::Debug;
 use std::marker::Model;
 use thiserror::Error;
 
@@ -76,6 +79,13 @@ impl Model for Media {
     ghost invariant = { λ m. AreOfTheirKinds m.held };
 }
 
+/// No medium is shown.
+impl Debug for Media {
+    fn fmt<W: fmt::Write>(&self, f: &mut fmt::Formatter<W>) -> fmt::Result {
+        f.write_str("Media")
+    }
+}
+
 impl Media {
     /// No media.
     pub fn new(heap: Heap) -> Media
@@ -133,6 +143,22 @@ impl Media {
         };
         self.held.insert(path.copy(self.heap)?, medium)?;
         Ok(())
+    }
+
+    pub fn copy(&self, heap: Heap) -> Result<Media, Memory>
+        ensures { IfOk result (λ copy. copy ≡ self.now) }
+    {
+        Ok(Media {
+            heap,
+            held: self.held.copy(heap)?,
+        })
+    }
+
+    /// The paths of the media, in their order.
+    pub fn paths(&self) -> Keys<'_, Path, Medium>
+        ensures { result ≡ map.keys self.now }
+    {
+        self.held.paths()
     }
 
     /// Whether a medium stands under a path, seen or not.

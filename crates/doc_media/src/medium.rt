@@ -2,6 +2,8 @@
 
 use crate::kind::MediaKind;
 use doc_page_parts::bytes::Bytes;
+use doc_page_parts::failure::Memory;
+use doc_page_parts::heap::Heap;
 use doc_store_readers::groups::Groups;
 use doc_store_readers::reader::Reader;
 
@@ -14,7 +16,7 @@ pub struct Medium {
 }
 
 impl Medium {
-    ghost use Rattle.std.specs.Prelude.{◌≡◌, Some};
+    ghost use Rattle.std.specs.Prelude.{◌≡◌, IfOk, Some};
     ghost use Rattle.doc_media.specs.Held.{page_of};
     ghost use Rattle.doc_store_readers.specs.Sites.{may_see};
 
@@ -23,5 +25,15 @@ impl Medium {
         ensures { result ≡ may_see (Some reader.now) (page_of self.now) }
     {
         reader.owner || reader.groups.meets(&self.groups)
+    }
+
+    pub fn copy(&self, heap: Heap) -> Result<Medium, Memory>
+        ensures { IfOk result (λ copy. copy ≡ self.now) }
+    {
+        Ok(Medium {
+            groups: self.groups.copy(heap)?,
+            kind: self.kind,
+            bytes: Bytes::copy_of(heap, self.bytes.get())?,
+        })
     }
 }

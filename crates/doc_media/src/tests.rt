@@ -51,6 +51,27 @@ fn a_path_is_taken_once(rt: HostRuntime) -> Result<(), Fail> {
     Ok(())
 }
 
+#[test]
+fn a_copy_has_the_same_media(rt: HostRuntime) -> Result<(), Fail> {
+    let heap = rt.alloc();
+    let mut media = Media::new(heap);
+    for text in ["t.csv", "guide/pic.PNG"] {
+        let path = Path::new(heap, text)?;
+        assert!(rt; add_for_staff(&mut media, heap, &path)?.is_none());
+    }
+    let copy = media.copy(heap)?;
+    let mut paths = copy.paths();
+    assert!(rt; paths.next().map(|path| path.text()) == Some("guide/pic.PNG"));
+    assert!(rt; paths.next().map(|path| path.text()) == Some("t.csv"));
+    assert!(rt; paths.next().is_none());
+    let ann = reader_of(heap, "staff")?;
+    let path = Path::new(heap, "t.csv")?;
+    let bytes = copy.seen(&ann, &path).map(|medium| medium.bytes.get());
+    assert!(rt; bytes == Some(b"8 bytes!".as_slice()));
+    assert!(rt; Media::new(heap).copy(heap)?.paths().next().is_none());
+    Ok(())
+}
+
 /// The names that the registry of media types (IANA) has.
 #[test]
 fn media_types(rt: HostRuntime) -> Result<(), Fail> {

@@ -55,6 +55,12 @@ impl Aliases {
         self.goals.get(alias)
     }
 
+    pub fn contains(&self, alias: &Path) -> bool
+        ensures { result ≡ map.contains_key self.now alias.now }
+    {
+        self.goals.contains(alias)
+    }
+
     /// How many aliases there are with one more, once a path is none of them.
     pub fn len_after_move(&self, to: &Path) -> usize
         ensures { result ≡ map.len (map.remove self.now to.now) + 1 }

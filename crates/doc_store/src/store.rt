@@ -4,7 +4,7 @@ ghost use Rattle.std.specs.Prelude.{◌≡◌, ◌+◌, ◌<◌, ◌^◌, Some, 
 ghost use Rattle.std.specs.FinMap as map;
 ghost use Rattle.doc_page_parts.specs.Refusals.{Gives};
 ghost use Rattle.doc_store_readers.specs.Groups.{texts_of};
-ghost use Rattle.doc_store.specs.Names.{names_of};
+ghost use Rattle.doc_store.specs.Names.{is_name, names_of};
 ghost use Rattle.doc_store_readers.specs.Pages.{without_stamps};
 ghost use Rattle.doc_store_readers.specs.Sites.{may_see, view_of};
 ghost use Rattle.doc_store.specs.Store.{IsStore, StoreState, empty_store, fits, fits_in, may_move};
@@ -221,6 +221,13 @@ impl Store {
             return None;
         }
         Some(self.puts)
+    }
+
+    /// Whether a page stands under a path, or the path is an alias. It takes no memory.
+    pub fn has_name(&self, path: &Path) -> bool
+        ensures { result ≡ is_name self.now.site path.now }
+    {
+        self.pages.contains(path) || self.aliases.contains(path)
     }
 
     /// The names of a page: its path, then its aliases in the order of their bytes. Where no page stands

@@ -1,4 +1,5 @@
 pub mod CopySteps
+pub mod EntryCopies
 mod Examples
 pub mod EntrySteps
 pub mod FindLaws
