@@ -1,7 +1,9 @@
 -- Edits that bring no page to the path of a medium keep media and pages apart.
-use Rattle.std.proofs.Common.{◌≡◌, ℕ, List, Bool, true, false, cond, is_some, not, refl, ap, sym, ◌∙◌}
+use Rattle.std.proofs.Common.{◌≡◌, ℕ, List, [], ◌∷◌, Bool, true, false, cond, is_some, not, refl, ap, sym, ◌∙◌}
 use Rattle.std.specs.Prelude.{◌||◌, Option, Some, None, option_map, Result, Ok, Err, ⊤, if◌then◌else◌}
 use Rattle.std.specs.FinMap as map
+use Rattle.std.specs.List.{list_all, list_any}
+use Rattle.std.proofs.lemmas.Bool.{and_parts}
 use Rattle.doc_page_parts.proofs.Bools.{clash}
 use Rattle.doc_store_readers.specs.Maps.{TextMap, map_values}
 use Rattle.doc_store_readers.specs.Pages.{Page}
@@ -10,6 +12,7 @@ use Rattle.doc_store_readers.specs.declared.reader.Reader.{Reader}
 use Rattle.doc_store_readers.proofs.KeySteps.{contains_set, contains_taken, same_from, same_key}
 use Rattle.doc_store_readers.proofs.MapValues.{get-map_values}
 use Rattle.doc_store_readers.proofs.ViewLaw.{get-visible_aliases, get-visible_pages}
+use Rattle.doc_store.specs.Names.{is_name}
 use Rattle.doc_store.specs.Store.{StoreState, aliases_after, effect_of, goal_after, is_goal, move_fits, move_page}
 use Rattle.doc_store.specs.Store.{remove_page, set_page, with_key_at}
 use Rattle.doc_store.specs.declared.moving.MoveError.{MoveError}
@@ -21,7 +24,7 @@ use Rattle.doc_media.specs.Media.{Media, media_visible_to, site_of_media}
 use Rattle.doc_hub_answers.specs.Edits.{regrouped, store_after}
 use Rattle.doc_hub_answers.specs.declared.edit.Edit.{Edit}
 use Rattle.doc_hub_answers.specs.declared.edit.Edit.TheVariants as edits
-use Rattle.doc_hub.specs.Worlds.{IsApart, has_medium}
+use Rattle.doc_hub.specs.Worlds.{IsApart, are_apart, has_medium}
 
 -- a put that is not refused is at the path of no medium, and fits in the store
 pub put_is_free : (medium : Bool) (fits : Result (Unit {0}) EditError)
@@ -48,6 +51,41 @@ move_is_free true false true aliases puts e = absurd (unlike e)
     unlike : ◌≡◌ {A = Result (Unit {0}) MoveError} (Err move_errors.Taken) (Ok tt) → ⊥
     unlike h = cc
 move_is_free true false false aliases puts e = (refl, refl, e)
+
+-- ---- media that are set
+
+all_of : (p : List ℕ → Bool) (paths : List (List ℕ)) (q : List ℕ) → list_all p paths ≡ true → list_any (same_key q) paths ≡ true
+    → p q ≡ true
+all_of p [] q all found = absurd (clash false found refl)
+all_of p (path ∷ paths) q all found =
+    let parts = and_parts (p path) (list_all p paths) all in by (same_key q path) refl parts.0 (λ more. all_of p paths q parts.1 more)
+  where
+    by : (t : Bool) → same_key q path ≡ t → p path ≡ true → (list_any (same_key q) paths ≡ true → p q ≡ true) → p q ≡ true
+    by true same here rest = ap p (same_from q path same) ∙ here
+    by false other here rest = rest (sym (ap (λ t. t || list_any (same_key q) paths) other) ∙ found)
+
+no_name : (site : Site) (q : List ℕ) → not (is_name site q) ≡ true
+    → (map.contains_key site.pages q ≡ false) × (map.contains_key site.aliases q ≡ false)
+no_name site q is = by (map.contains_key site.pages q) (map.contains_key site.aliases q) is
+  where
+    by : (page alias : Bool) → not (page || alias) ≡ true → (page ≡ false) × (alias ≡ false)
+    by false false e = (refl, refl)
+    by false true e = absurd (clash false e refl)
+    by true alias e = absurd (clash false e refl)
+
+-- media none of whose paths is a name of the site are apart from it
+pub apart_of : (site : Site) (media : Media) → are_apart site media ≡ true → IsApart site media
+apart_of site None is = record {
+  pages = λ path medium. absurd (clash false medium refl);
+  aliases = λ path medium. absurd (clash false medium refl);
+}
+apart_of site (Some held) is = record { pages = λ path medium. (at path medium).0; aliases = λ path medium. (at path medium).1 }
+  where
+    at : (path : List ℕ) → map.contains_key held path ≡ true
+        → (map.contains_key site.pages path ≡ false) × (map.contains_key site.aliases path ≡ false)
+    at path medium =
+        no_name site path
+        (all_of (λ path. not (is_name site path)) (map.keys held) path is (sym (map.contains_key-keys held path) ∙ medium))
 
 still_some : {X Y : Type 0} (f : X → Y) (o : Option X) → is_some (option_map f o) ≡ is_some o
 still_some f None = refl

@@ -165,6 +165,9 @@ module _ (render : Renders) (rendered rendered' : ℕ) (w v : World) where
   event_counts (events.TakePuts takes) said h same =
       quiet (events.TakePuts takes) (outcome_of (events.TakePuts takes) said) refl refl same
       (stand_beside render w v (events.TakePuts takes) said tt h).puts
+  event_counts (events.SetMedia media) said h same =
+      quiet (events.SetMedia media) (outcome_of (events.SetMedia media) said) refl refl same
+      (stand_beside render w v (events.SetMedia media) said tt h).puts
 
   -- the same as a run tells it
   pub counted_same : (event same : Event) (outcome : Outcome) → event ≡ same → CountedHere same outcome → CountedHere event outcome

@@ -1,21 +1,25 @@
 -- What events leave of a world, by their kinds: an event that is of no connection leaves the connections, and one that is no edit of
 -- the site besides leaves the site.
 use Rattle.std.proofs.Common.{◌≡◌, refl, ap, sym, subst}
-use Rattle.std.specs.Prelude.{⊤, Result, Ok, Err}
+use Rattle.std.specs.Prelude.{⊤, Bool, true, false, if◌then◌else◌, Result, Ok, Err}
 use Rattle.doc_page_parts.specs.Refusals.{Gives}
 use Rattle.doc_store.specs.declared.moving.MoveError.TheVariants as move_errors
 use Rattle.doc_store.specs.declared.site_edit.SiteEdit.{SiteEdit}
 use Rattle.doc_store.specs.declared.site_edit.SiteEdit.TheVariants as site_edits
 use Rattle.doc_store.specs.declared.store.EditError.TheVariants as edit_errors
 use Rattle.doc_store_readers.specs.declared.readers.ReaderError.TheVariants as reader_errors
+use Rattle.doc_media.specs.Media.{Media}
 use Rattle.doc_hub_answers.specs.Replies.{Renders}
 use Rattle.doc_hub_events.specs.Events.{Said, SaidReader, SaidSite}
 use Rattle.doc_hub.specs.Runs.{Happens, HappensReader, HappensSite}
-use Rattle.doc_hub.specs.Worlds.{World, world_moved, world_put, world_reader_removed, world_reader_set, world_readers_set, world_removed}
+use Rattle.doc_hub.specs.Worlds.{World, are_apart, world_media_set, world_moved, world_put, world_reader_removed, world_reader_set}
+use Rattle.doc_hub.specs.Worlds.{with_media, world_readers_set, world_removed}
 use Rattle.doc_hub_events.specs.declared.event.Event.{Event}
 use Rattle.doc_hub_events.specs.declared.event.Event.TheVariants as events
 use Rattle.doc_hub_events.specs.declared.event.ReaderEdit.{ReaderEdit}
 use Rattle.doc_hub_events.specs.declared.event.ReaderEdit.TheVariants as reader_edits
+use Rattle.doc_hub_events.specs.declared.refusal.MediaSetError.{MediaSetError}
+use Rattle.doc_hub_events.specs.declared.refusal.MediaSetError.TheVariants as media_errors
 
 -- what holds of the world that a call gives, and of the one that it met, holds of the one that it leaves
 pub by_gives : {X E : Type 0} (P : World → Type 0) (memory : E) (given : World × Result X E) (w v : World) (r : Result X E) → P w
@@ -68,6 +72,23 @@ leaves_all_but_readers w v (reader_edits.Remove token) said h =
 leaves_all_but_readers w v (reader_edits.All readers) said h =
     by_gives (HasReadersOf w) reader_errors.Memory (world_readers_set w readers) w v said refl refl h
 
+-- all but the media is as before
+abbrev pub HasMediaOf : World → World → Type 0
+HasMediaOf w v = v ≡ record w { media = v.media }
+
+-- the media are set or not
+abbrev pub media_set_if : World → Media → Bool → World × Result (Unit {0}) MediaSetError
+media_set_if w media apart = if apart then (with_media w media, Ok tt) else (w, Err media_errors.Taken)
+
+set_leaves : (w : World) (media : Media) (apart : Bool) → HasMediaOf w (media_set_if w media apart).0
+set_leaves w media true = refl
+set_leaves w media false = refl
+
+pub leaves_all_but_media : (w v : World) (media : Media) (said : Result (Unit {0}) MediaSetError)
+    → Gives media_errors.Memory (world_media_set w media) w v said → HasMediaOf w v
+leaves_all_but_media w v media said h =
+    by_gives (HasMediaOf w) media_errors.Memory (world_media_set w media) w v said refl (set_leaves w media (are_apart w.site media)) h
+
 pub stand_beside : (render : Renders) (w v : World) (event : Event) (said : Said event) → IsBeside event → Happens render w event v said
     → StandBeside w v
 stand_beside render w v events.Connect said is h = absurd is
@@ -87,6 +108,14 @@ stand_beside render w v (events.TakePuts takes) said is h = record {
   given = ap (λ (x : World). x.given) h;
   connections = ap (λ (x : World). x.connections) h;
 }
+stand_beside render w v (events.SetMedia media) said is h =
+    let same = leaves_all_but_media w v media said h in
+    record {
+      site = ap (λ (x : World). x.site) same;
+      puts = ap (λ (x : World). x.puts) same;
+      given = ap (λ (x : World). x.given) same;
+      connections = ap (λ (x : World). x.connections) same;
+    }
 
 -- ---- events of no connection
 

@@ -1,10 +1,10 @@
--- In any run the media stand, and no page comes to the path of one.
-use Rattle.std.proofs.Common.{◌≡◌, ℕ, List, Bool, true, false, is_some, refl, ap, sym, ◌∙◌, subst}
+-- In any run the media stand until others are set, and no page comes to the path of one.
+use Rattle.std.proofs.Common.{◌≡◌, ℕ, List, ◌∷◌, Bool, true, false, is_some, refl, ap, sym, ◌∙◌, subst}
 use Rattle.std.specs.Prelude.{MatchBool, Option, Some, None, Result, Ok, Err, All, nat_lt}
 use Rattle.std.specs.FinMap as map
 use Rattle.std.specs.Cmp.Lexicographic.{slice_cmp}
 use Rattle.std.specs.Ordering.{nat_cmp}
-use Rattle.std.proofs.lemmas.List.Elements.{All-nil, All-cons}
+use Rattle.std.proofs.lemmas.List.Elements.{All-nil, All-cons, All-head, All-tail}
 use Rattle.doc_store_readers.specs.Maps.{TextMap}
 use Rattle.doc_store_readers.specs.Pages.{Page}
 use Rattle.doc_store.specs.Store.{fits_in, moved_by, put_by}
@@ -32,22 +32,24 @@ use Rattle.doc_hub_events.specs.declared.refusal.ConnectError.TheVariants as con
 use Rattle.doc_hub_events.specs.declared.refusal.PushError.TheVariants as push_errors
 use Rattle.doc_hub_events.specs.declared.refusal.StepError.{StepError}
 use Rattle.doc_hub_events.specs.declared.refusal.StepError.TheVariants as step_errors
-use Rattle.doc_hub.specs.MediaLaws.{MediaStandApart}
+use Rattle.doc_hub_events.specs.declared.refusal.MediaSetError.TheVariants as media_errors
+use Rattle.doc_hub.specs.MediaLaws.{KeepsMedia, MediaStandApart}
 use Rattle.doc_hub.specs.Runs.{Happened, Happens, HappensOn, HappensSite, Runs, nothing, first}
-use Rattle.doc_hub.specs.Worlds.{Answers, IsApart, Stays, StepsAt, World, answer_in, asking_of, connected, disconnected, has_medium}
+use Rattle.doc_hub.specs.Worlds.{Answers, IsApart, Stays, StepsAt, World, answer_in, are_apart, asking_of, world_media_set, connected, disconnected, has_medium}
 use Rattle.doc_hub.specs.Worlds.{last_id}
 use Rattle.doc_hub.specs.Worlds.{may_move_beside, may_put, new_world, stepped_by, store_of, world_moved, world_pushed, world_put}
 use Rattle.doc_hub.specs.Worlds.{world_removed}
 use Rattle.doc_hub.specs.declared.connection.Connection.{Connection}
 use Rattle.doc_hub.proofs.AnswerEdits.{answer_can_be_made}
 use Rattle.doc_hub.proofs.AnswersFree.{answer_stays_free}
-use Rattle.doc_hub.proofs.Apart.{StandsThere, edit_apart, move_apart, move_is_free, put_apart, put_is_free, removed_apart}
-use Rattle.doc_hub.proofs.KindSteps.{by_equation, by_gives, leaves_all_but_readers}
+use Rattle.doc_hub.proofs.Apart.{StandsThere, apart_of, edit_apart, move_apart, move_is_free, put_apart, put_is_free, removed_apart}
+use Rattle.doc_hub.proofs.KindSteps.{by_equation, by_gives, leaves_all_but_readers, media_set_if}
 use Rattle.doc_hub.proofs.PutCounts.{connected_if}
 
--- the media are those of a first world; and no path is both one of theirs and a page's or an alias, where that is so there
-record HasMedia (start w : World) : Type 0 where
-  stand : w.media ≡ start.media
+-- the media are those of a first world, where none were set; and no path is both one of theirs and a page's or an alias, where that is so
+-- there
+record HasMedia (unset : Type 0) (start w : World) : Type 0 where
+  stand : unset → w.media ≡ start.media
   apart : IsApart start.site start.media → IsApart w.site w.media
 
 put_keeps : (w : World) (path : List ℕ) (page : Page) (stands : Bool) (said : Result (Unit {0}) EditError)
@@ -73,14 +75,14 @@ moved_stands w text (Some (edits.Regroup path groups)) can = tt
 moved_stands w text (Some (edits.Move from to)) can = can.stands
 moved_stands w text (Some (edits.Remove path)) can = tt
 
-module _ (render : Renders) (start : World) where
+module _ (render : Renders) (start : World) (unset : Type 0) where
   abbrev Has : World → Type 0
-  Has w = HasMedia start w
+  Has w = HasMedia unset start w
 
   -- all but the site and the media is another's
   has_so : (w v : World) → v.media ≡ w.media → v.site ≡ w.site → Has w → Has v
   has_so w v same also has = record {
-    stand = same ∙ has.stand;
+    stand = λ none. same ∙ has.stand none;
     apart = λ apart. subst (IsApart v.site) (sym same) (subst (λ site. IsApart site w.media) (sym also) (has.apart apart));
   }
 
@@ -141,35 +143,62 @@ module _ (render : Renders) (start : World) where
         apart = λ apart. move_keeps w from to (may_move_beside w.media (store_of w) from to) refl (has.apart apart);
       }) h
 
-  event_keeps : (w v : World) (event : Event) (said : Said event) → Has w → Happens render w event v said → Has v
-  event_keeps w v events.Connect said has h =
+  -- media are set that have no path of the site's
+  set_keeps : (w : World) (media : Media) (apart : Bool) → are_apart w.site media ≡ apart → (unset → ⊥) → Has w
+      → Has (media_set_if w media apart).0
+  set_keeps w media true is set has = record { stand = λ none. absurd (set none); apart = λ _. apart_of w.site media is }
+  set_keeps w media false is set has = has
+
+  event_keeps : (w v : World) (event : Event) (said : Said event) → (unset → KeepsMedia event) → Has w → Happens render w event v said
+      → Has v
+  event_keeps w v events.Connect said none has h =
       by_gives Has connect_errors.Memory (connected w) w v said has (connect_keeps w (nat_lt w.given last_id) has) h
-  event_keeps w v (events.On id call) said has h = on_keeps w v id.0 call said has h
-  event_keeps w v (events.Site edit) said has h = site_keeps w v edit said has h
-  event_keeps w v (events.Reader edit) said has h =
+  event_keeps w v (events.On id call) said none has h = on_keeps w v id.0 call said has h
+  event_keeps w v (events.Site edit) said none has h = site_keeps w v edit said has h
+  event_keeps w v (events.Reader edit) said none has h =
       let same = leaves_all_but_readers w v edit said h in
       has_so w v (ap (λ (x : World). x.media) same) (ap (λ (x : World). x.site) same) has
-  event_keeps w v (events.TakePuts takes) said has h =
+  event_keeps w v (events.TakePuts takes) said none has h =
       has_so w v (ap (λ (x : World). x.media) h) (ap (λ (x : World). x.site) h) has
+  event_keeps w v (events.SetMedia media) said none has h =
+      by_gives Has media_errors.Memory (world_media_set w media) w v said has (set_keeps w media (are_apart w.site media) refl none has) h
 
-  run_keeps : (w v : World) (run : List Happened) → Has w → Runs render w run v → Has v
-  run_keeps w v run has (nothing x) = has
-  run_keeps w v run has (first x y z event outcome rest (said, h, told) runs) = run_keeps y z rest (event_keeps x y event said has h) runs
+  -- none of these events sets media, where none were set
+  abbrev AreKeeping : List Happened → Type 0
+  AreKeeping run = unset → All (λ h. KeepsMedia h.event) run
 
-  all_keep : (w v : World) (run : List Happened) → Has w → Runs render w run v → All (λ h. Has h.world) run
-  all_keep w v run has (nothing x) = All-nil (λ (h : Happened). Has h.world)
-  all_keep w v run has (first x y z event outcome rest (said, h, told) runs) =
-      All-cons (λ (h : Happened). Has h.world) (record { world = x; event = event; outcome = outcome }) rest has
-      (all_keep y z rest (event_keeps x y event said has h) runs)
+  first_keeps : (h : Happened) (rest : List Happened) → AreKeeping (h ∷ rest) → unset → KeepsMedia h.event
+  first_keeps h rest all none = All-head (λ (x : Happened). KeepsMedia x.event) h rest (all none)
 
-at_start : (w : World) → HasMedia w w
-at_start w = record { stand = refl; apart = λ apart. apart }
+  rest_keeps : (h : Happened) (rest : List Happened) → AreKeeping (h ∷ rest) → AreKeeping rest
+  rest_keeps h rest all none = All-tail (λ (x : Happened). KeepsMedia x.event) h rest (all none)
+
+  run_keeps : (w v : World) (run : List Happened) → AreKeeping run → Has w → Runs render w run v → Has v
+  run_keeps w v run all has (nothing x) = has
+  run_keeps w v run all has (first x y z event outcome rest (said, h, told) runs) =
+      let here : Happened = record { world = x; event = event; outcome = outcome } in
+      run_keeps y z rest (rest_keeps here rest all) (event_keeps x y event said (first_keeps here rest all) has h) runs
+
+  all_keep : (w v : World) (run : List Happened) → AreKeeping run → Has w → Runs render w run v → All (λ h. Has h.world) run
+  all_keep w v run all has (nothing x) = All-nil (λ (h : Happened). Has h.world)
+  all_keep w v run all has (first x y z event outcome rest (said, h, told) runs) =
+      let here : Happened = record { world = x; event = event; outcome = outcome } in
+      All-cons (λ (h : Happened). Has h.world) here rest has
+      (all_keep y z rest (rest_keeps here rest all) (event_keeps x y event said (first_keeps here rest all) has h) runs)
+
+at_start : (unset : Type 0) (w : World) → HasMedia unset w w
+at_start unset w = record { stand = λ none. refl; apart = λ apart. apart }
+
+-- of whether media are set nothing is asked
+module _ (render : Renders) (w v : World) (run : List Happened) (runs : Runs render w run v) where
+  stays_apart : IsApart w.site w.media → IsApart v.site v.media
+  stays_apart apart = (run_keeps render w ⊥ w v run (λ none. absurd none) (at_start ⊥ w) runs).apart apart
 
 -- in each world of a run it is so, where it is in the first
 pub all_apart : (render : Renders) (w v : World) (run : List Happened) → IsApart w.site w.media → Runs render w run v
     → All (λ h. IsApart h.world.site h.world.media) run
 all_apart render w v run apart runs =
-    let all = all_keep render w w v run (at_start w) runs in
+    let all = all_keep render w ⊥ w v run (λ none. absurd none) (at_start ⊥ w) runs in
     λ k d lt. (all k d lt).apart apart
 
 -- no medium stands under a path of no page
@@ -184,8 +213,9 @@ none_apart media = record {
 
 pub media_stand_apart : MediaStandApart
 media_stand_apart = record {
-  stand = λ render w v run runs. (run_keeps render w w v run (at_start w) runs).stand;
-  apart = λ render w v run apart runs. (run_keeps render w w v run (at_start w) runs).apart apart;
+  stand = λ render w v run runs all.
+      let unset = All (λ h. KeepsMedia h.event) run in (run_keeps render w unset w v run (λ none. none) (at_start unset w) runs).stand all;
+  apart = λ render w v run apart runs. stays_apart render w v run runs apart;
   new = λ render readers settings media v run runs.
-      let w = new_world readers settings media in (run_keeps render w w v run (at_start w) runs).apart (none_apart media);
+      stays_apart render (new_world readers settings media) v run runs (none_apart media);
 }

@@ -21,7 +21,7 @@ use Rattle.doc_hub.specs.FreshLaws.{IsNoTaking, TakingStands}
 use Rattle.doc_hub.specs.Runs.{Happened, Happens, HappensOn, nothing, first}
 use Rattle.doc_hub.specs.Worlds.{World, Answers, Stays, StepsAt, connected, disconnected, last_id, stepped_by, world_pushed}
 use Rattle.doc_hub.specs.declared.connection.Connection.{Connection}
-use Rattle.doc_hub.proofs.KindSteps.{by_equation, by_gives, leaves_all_but_readers, leaves_all_but_site}
+use Rattle.doc_hub.proofs.KindSteps.{by_equation, by_gives, leaves_all_but_media, leaves_all_but_readers, leaves_all_but_site}
 use Rattle.doc_hub.proofs.PutCounts.{connected_if}
 
 abbrev Takes : World → World → Type 0
@@ -68,6 +68,8 @@ event_stands render w v (events.On n call) said other h = on_stands render w v n
 event_stands render w v (events.Site edit) said other h = ap (λ (x : World). x.takes_puts) (leaves_all_but_site w v edit said h)
 event_stands render w v (events.Reader edit) said other h = ap (λ (x : World). x.takes_puts) (leaves_all_but_readers w v edit said h)
 event_stands render w v (events.TakePuts takes) said other h = absurd other
+event_stands render w v (events.SetMedia media) said other h =
+    ap (λ (x : World). x.takes_puts) (leaves_all_but_media w v media said h)
 
 pub taking_stands : TakingStands
 taking_stands render w v run (nothing x) others = refl

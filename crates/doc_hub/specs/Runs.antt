@@ -8,7 +8,7 @@ use Rattle.doc_store.specs.declared.store.EditError.TheVariants as edit_errors
 use Rattle.doc_hub_events.specs.Events.{Said, SaidOn, SaidReader, SaidSite, outcome_of}
 use Rattle.doc_hub_answers.specs.Replies.{Renders}
 use Rattle.doc_hub.specs.Worlds.{World, connected, world_pushed, disconnected, world_put, world_removed, world_moved, world_reader_set}
-use Rattle.doc_hub.specs.Worlds.{world_reader_removed, world_readers_set, world_taking, Steps}
+use Rattle.doc_hub.specs.Worlds.{world_reader_removed, world_readers_set, world_media_set, world_taking, Steps}
 use Rattle.doc_store.specs.declared.site_edit.SiteEdit.{SiteEdit}
 use Rattle.doc_store.specs.declared.site_edit.SiteEdit.TheVariants as site_edits
 use Rattle.doc_hub_events.specs.declared.event.ConnectionEvent.{ConnectionEvent}
@@ -22,6 +22,7 @@ use Rattle.doc_hub_events.specs.declared.event.Step.TheVariants as steps
 use Rattle.doc_hub_events.specs.declared.outcome.Outcome.{Outcome}
 use Rattle.doc_hub_events.specs.declared.outcome.Outcome.TheVariants as outcomes
 use Rattle.doc_hub_events.specs.declared.refusal.ConnectError.TheVariants as connect_errors
+use Rattle.doc_hub_events.specs.declared.refusal.MediaSetError.TheVariants as media_errors
 use Rattle.doc_hub_events.specs.declared.refusal.PushError.TheVariants as push_errors
 use Rattle.doc_hub_events.specs.declared.refusal.Refusal.TheVariants as refusals
 
@@ -48,6 +49,7 @@ Happens render w (events.On id call) v said = HappensOn render w id.0 call v sai
 Happens render w (events.Site edit) v said = HappensSite w edit v said
 Happens render w (events.Reader edit) v said = HappensReader w edit v said
 Happens render w (events.TakePuts takes) v said = v ≡ world_taking w takes
+Happens render w (events.SetMedia media) v said = Gives media_errors.Memory (world_media_set w media) w v said
 
 -- The event leaves this world, and its outcome is what its call answers.
 abbrev pub Leaves : Renders → World → Event → World → Outcome → Type 0

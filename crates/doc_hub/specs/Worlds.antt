@@ -1,13 +1,15 @@
 -- The world that a hub stands for, and one function of it for each call.
-use Rattle.std.specs.Prelude.{◌≡◌, ℕ, List, ◌+◌, ◌^◌, ◌-◌, Bool, true, nat_lt, nat_le, ◌&&◌, ◌||◌, false, MatchBool, Option, Some, None}
+use Rattle.std.specs.Prelude.{◌≡◌, ℕ, List, ◌+◌, ◌^◌, ◌-◌, Bool, true, nat_lt, nat_le, not, ◌&&◌, ◌||◌, false, MatchBool, Option, Some, None}
 use Rattle.std.specs.Prelude.{is_some, option_map, Result, Ok, Err, if◌then◌else◌, refl}
 use Rattle.std.specs.Coded.{Coded, code_by, coded×, coded_bool, coded_list, coded_option, coded_ℕ}
 use Rattle.std.specs.FinMap as map
+use Rattle.std.specs.List.{list_all}
 use Rattle.doc_store_readers.specs.declared.reader.Reader.{Reader}
 use Rattle.doc_store_readers.specs.Pages.{page_code}
 use Rattle.doc_store_readers.specs.Sites.{Site, empty_site, site_code, view_of}
 use Rattle.doc_media.specs.Media.{Media, beside_of}
 use Rattle.doc_store_readers.specs.Readers.{ReaderTable, find_in, set_reader, without_reader}
+use Rattle.doc_store.specs.Names.{is_name}
 use Rattle.doc_store.specs.Store.{StoreState, aliases_after, fits_in, move_fits, moved_by, put_by, without_page}
 use Rattle.doc_store.specs.declared.moving.MoveError.{MoveError}
 use Rattle.doc_store_readers.specs.declared.readers.ReaderError.{ReaderError}
@@ -36,12 +38,14 @@ use Rattle.doc_hub_events.specs.declared.refusal.HubError.{HubError}
 use Rattle.doc_hub_events.specs.declared.refusal.HubError.TheVariants as hub_errors
 use Rattle.doc_hub_events.specs.declared.refusal.ConnectError.{ConnectError}
 use Rattle.doc_hub_events.specs.declared.refusal.ConnectError.TheVariants as connect_errors
+use Rattle.doc_hub_events.specs.declared.refusal.MediaSetError.{MediaSetError}
+use Rattle.doc_hub_events.specs.declared.refusal.MediaSetError.TheVariants as media_errors
 use Rattle.doc_hub_events.specs.declared.refusal.PushError.{PushError}
 use Rattle.doc_hub_events.specs.declared.refusal.StepError.{StepError}
 use Rattle.doc_hub_events.specs.declared.refusal.StepError.TheVariants as step_errors
 
 -- the site, its media, how many puts and moves were accepted, whether puts are taken, the readers, the settings, the number of connections
--- given, and the connections by number; no reply knows the stamp of a page, and no call changes the media
+-- given, and the connections by number; no reply knows the stamp of a page
 pub record World : Type 0 where
   pub site : Site
   pub media : Media
@@ -191,6 +195,15 @@ abbrev pub has_medium : Media → List ℕ → Bool
 has_medium None path = false
 has_medium (Some held) path = map.contains_key held path
 
+-- whether of some paths none is a page's, and none is an alias
+abbrev pub are_no_names : Site → List (List ℕ) → Bool
+are_no_names site paths = list_all (λ path. not (is_name site path)) paths
+
+-- whether no path of a medium is a page's or an alias
+abbrev pub are_apart : Site → Media → Bool
+are_apart site None = true
+are_apart site (Some held) = are_no_names site (map.keys held)
+
 -- No path is both a medium's and a page's, nor a medium's and an alias.
 pub record IsApart (site : Site) (media : Media) : Type 0 where
   pub pages : (path : List ℕ) → has_medium media path ≡ true → map.contains_key site.pages path ≡ false
@@ -240,6 +253,14 @@ world_reader_removed w token = (record w { readers = without_reader w.readers to
 -- the readers are these, and no others
 abbrev pub world_readers_set : World → ReaderTable → World × Result (Unit {0}) ReaderError
 world_readers_set w readers = (record w { readers = readers }, Ok tt)
+
+-- the same beside these media
+abbrev pub with_media : World → Media → World
+with_media w media = record w { media = media }
+
+-- the media are these, unless one of them has a path of the site's
+abbrev pub world_media_set : World → Media → World × Result (Unit {0}) MediaSetError
+world_media_set w media = if are_apart w.site media then (with_media w media, Ok tt) else (w, Err media_errors.Taken)
 
 -- from here on owners' puts are taken, or none is
 abbrev pub world_taking : World → Bool → World

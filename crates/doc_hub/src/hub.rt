@@ -23,6 +23,7 @@ ghost use Rattle.doc_shelf.specs.Shelves.{rendered_for};
 
 use crate::connection::Connection;
 use crate::connections::Connections;
+use crate::media_to_set::{are_apart, copy_of};
 use crate::telling::step_of;
 use doc_http::request::Next;
 use doc_http::unread::Unread;
@@ -31,7 +32,7 @@ use doc_hub_answers::answer::answer_to_fault;
 use doc_hub_answers::edit::Edit;
 use doc_hub_events::event::{ConnId, ConnectionEvent, Event, ReaderEdit, Step};
 use doc_hub_events::outcome::Outcome;
-use doc_hub_events::refusal::{ConnectError, HubError, PushError, StepError};
+use doc_hub_events::refusal::{ConnectError, HubError, MediaSetError, PushError, StepError};
 use doc_hub_replies::serving::Serving;
 use doc_media::media::Media;
 use doc_page::renderer::Renderer;
@@ -150,7 +151,7 @@ impl<R: Renderer + Drop> Hub<R> {
         Hub::with_media(heap, renderer, readers, settings, cache, None)
     }
 
-    /// The same with these media beside the pages, which no event changes, or with none at all: then no path is kept for any.
+    /// The same with these media beside the pages, or with none at all: then no path is kept for any.
     pub fn with_media(
         heap: Heap,
         renderer: R,
@@ -426,6 +427,35 @@ impl<R: Renderer + Drop> Hub<R> {
         Ok(())
     }
 
+    /// Sets the media, all at once: these stand beside the pages from here on, or none do. `Taken` says that one of them has the path of a
+    /// page, or of an alias; then nothing changes. It takes no memory.
+    pub fn set_media(&mut self, media: Option<Media>) -> Result<(), MediaSetError>
+        ensures world { Happens (R.page self.old.0) self.old.1
+            (Event.SetMedia media) self.new.1 result }
+        ensures same { R.page self.new.0 ≡ R.page self.old.0 }
+        ensures counted { R.count self.new.0 ≡ R.count self.old.0 }
+    {
+        if !are_apart(self.shelf.store(), &media) {
+            return Err(MediaSetError::Taken);
+        }
+        self.media = media;
+        Ok(())
+    }
+
+    /// The same with a copy of these media. `Memory` says that there was no room for one: then nothing changes.
+    fn set_media_copies(&mut self, media: &Option<Media>) -> Result<(), MediaSetError>
+        ensures world { Happens (R.page self.old.0) self.old.1
+            (Event.SetMedia media.now) self.new.1 result }
+        ensures same { R.page self.new.0 ≡ R.page self.old.0 }
+        ensures counted { R.count self.new.0 ≡ R.count self.old.0 }
+    {
+        if !are_apart(self.shelf.store(), media) {
+            return Err(MediaSetError::Taken);
+        }
+        let copies = copy_of(self.heap, media)?;
+        self.set_media(copies)
+    }
+
     /// Whether owners' puts are taken from here on, with the moves and the changes of groups that ask for a stamp as they do. Where they
     /// aren't, each is answered as by a store that takes no more; all else is answered as ever. It takes no memory.
     pub fn take_puts(&mut self, takes: bool)
@@ -484,6 +514,7 @@ impl<R: Renderer + Drop> Hub<R> {
                 self.take_puts(*takes);
                 Outcome::PutsSet
             }
+            Event::SetMedia(media) => Outcome::from(self.set_media_copies(media)),
         }
     }
 

@@ -127,7 +127,7 @@ pub fn short_runs_leave_a_put()
     ensures { PutsAreLeft }
 {}
 
-/// No event changes the media; and no path is both a medium's and a page's or an alias, after any run from a
+/// No event but `SetMedia` changes the media; and no path is both a medium's and a page's or an alias, after any run from a
 /// new hub, and after any run from a world where it is so.
 #[tactic(auto, using(crate::proofs::MediaLaws::media_stand_apart))]
 pub fn media_and_pages_stay_apart()

@@ -6,6 +6,7 @@ mod connection;
 mod connections;
 pub mod hub;
 pub mod laws;
+mod media_to_set;
 mod telling;
 
 pub use doc_hub_events::{event, outcome, refusal};

@@ -22,6 +22,8 @@ use Rattle.doc_hub_events.specs.declared.outcome.Outcome.{Outcome}
 use Rattle.doc_hub_events.specs.declared.outcome.Outcome.TheVariants as outcomes
 use Rattle.doc_hub_events.specs.declared.refusal.ConnectError.{ConnectError}
 use Rattle.doc_hub_events.specs.declared.refusal.ConnectError.TheVariants as connect_errors
+use Rattle.doc_hub_events.specs.declared.refusal.MediaSetError.{MediaSetError}
+use Rattle.doc_hub_events.specs.declared.refusal.MediaSetError.TheVariants as media_errors
 use Rattle.doc_hub_events.specs.declared.refusal.PushError.{PushError}
 use Rattle.doc_hub_events.specs.declared.refusal.PushError.TheVariants as push_errors
 use Rattle.doc_hub_events.specs.declared.refusal.Refusal.{Refusal}
@@ -62,6 +64,7 @@ Said (events.On id call) = SaidOn call
 Said (events.Site edit) = SaidSite edit
 Said (events.Reader edit) = SaidReader edit
 Said (events.TakePuts takes) = Unit {0}
+Said (events.SetMedia media) = Result (Unit {0}) MediaSetError
 
 -- ---- the refusals of the calls, under their own names
 
@@ -95,6 +98,10 @@ abbrev pub reader_refusal : ReaderError → Refusal
 reader_refusal reader_errors.BadToken = refusals.BadToken
 reader_refusal reader_errors.Memory = refusals.Memory
 
+abbrev pub media_refusal : MediaSetError → Refusal
+media_refusal media_errors.Taken = refusals.Taken
+media_refusal media_errors.Memory = refusals.Memory
+
 -- ---- the calls' answers as outcomes
 
 abbrev pub connecting : Result ConnId ConnectError → Outcome
@@ -125,6 +132,10 @@ abbrev pub setting_all : Result (Unit {0}) ReaderError → Outcome
 setting_all (Ok done) = outcomes.ReadersSet
 setting_all (Err e) = outcomes.Refused (reader_refusal e)
 
+abbrev pub setting_media : Result (Unit {0}) MediaSetError → Outcome
+setting_media (Ok done) = outcomes.MediaSet
+setting_media (Err e) = outcomes.Refused (media_refusal e)
+
 abbrev pub outcome_on : (call : ConnectionEvent) → SaidOn call → Outcome
 outcome_on (calls.Push bytes) said = pushing said
 outcome_on calls.Step said = stepping said
@@ -147,3 +158,4 @@ outcome_of (events.On id call) said = outcome_on call said
 outcome_of (events.Site edit) said = outcome_of_site edit said
 outcome_of (events.Reader edit) said = outcome_of_reader edit said
 outcome_of (events.TakePuts takes) said = outcomes.PutsSet
+outcome_of (events.SetMedia media) said = setting_media said

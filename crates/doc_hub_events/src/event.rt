@@ -1,5 +1,6 @@
 //! Events, and what a step of a hub does.
 
+use doc_media::media::Media;
 use doc_page_parts::bytes::Bytes;
 use doc_page_parts::text::Text;
 use doc_store::reader::Reader;
@@ -24,7 +25,7 @@ pub enum Step {
 }
 
 /// A call of a hub, with all that it takes: by its flat name one of Connect, Push, Step, Disconnect, Put,
-/// Remove, MovePage, SetReader, RemoveReader, SetReaders and TakePuts.
+/// Remove, MovePage, SetReader, RemoveReader, SetReaders, TakePuts and SetMedia.
 #[derive(Debug, Drop)]
 pub enum Event {
     Connect,
@@ -36,6 +37,8 @@ pub enum Event {
     Reader(ReaderEdit),
     /// From here on owners' puts are taken, or none is. It is the server's own: no script writes it.
     TakePuts(bool),
+    /// From here on these media stand beside the pages, or none do. It is the server's own: no script writes it.
+    SetMedia(Option<Media>),
 }
 
 /// What happens on a connection.

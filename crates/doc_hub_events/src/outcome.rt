@@ -1,10 +1,10 @@
 //! What comes of events.
 
 ghost use Rattle.std.specs.Prelude.{◌≡◌};
-ghost use Rattle.doc_hub_events.specs.Events.{connecting, pushing, stepping, putting, moving, setting, setting_all};
+ghost use Rattle.doc_hub_events.specs.Events.{connecting, pushing, stepping, putting, moving, setting, setting_all, setting_media};
 
 use crate::event::{ConnId, Step};
-use crate::refusal::{ConnectError, PushError, Refusal, StepError};
+use crate::refusal::{ConnectError, MediaSetError, PushError, Refusal, StepError};
 use doc_store::moving::MoveError;
 use doc_store::readers::{ReaderError, Set};
 use doc_store::store::{EditError, Put};
@@ -28,6 +28,8 @@ pub enum Outcome {
     ReadersSet,
     /// Puts are taken from here on, or none is.
     PutsSet,
+    /// The media are others.
+    MediaSet,
     /// The event did nothing.
     Refused(Refusal),
 }
@@ -104,6 +106,17 @@ impl From<Result<(), ReaderError>> for Outcome {
     fn from(said: Result<(), ReaderError>) -> Outcome {
         match said {
             Ok(()) => Outcome::ReadersSet,
+            Err(error) => Outcome::Refused(Refusal::from(error)),
+        }
+    }
+}
+
+impl From<Result<(), MediaSetError>> for Outcome {
+    ghost from_gives = { λ said outcome. outcome ≡ setting_media said };
+
+    fn from(said: Result<(), MediaSetError>) -> Outcome {
+        match said {
+            Ok(()) => Outcome::MediaSet,
             Err(error) => Outcome::Refused(Refusal::from(error)),
         }
     }

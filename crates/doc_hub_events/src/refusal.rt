@@ -1,7 +1,7 @@
 //! Why a hub refuses a call. Each refusal leaves the hub as it was.
 
 ghost use Rattle.std.specs.Prelude.{◌≡◌};
-ghost use Rattle.doc_hub_events.specs.Events.{connect_refusal, edit_refusal, move_refusal};
+ghost use Rattle.doc_hub_events.specs.Events.{connect_refusal, edit_refusal, media_refusal, move_refusal};
 ghost use Rattle.doc_hub_events.specs.Events.{push_refusal, reader_refusal, step_refusal};
 
 use doc_page_parts::failure::Memory;
@@ -101,6 +101,27 @@ impl From<Memory> for StepError {
     }
 }
 
+/// Why the media weren't set.
+#[derive(Clone, Copy, Debug, PartialEq, Eq, Error)]
+pub enum MediaSetError {
+    /// One of them has the path of a page, or of an alias.
+    #[error("a medium has a path of a page")]
+    Taken,
+    #[error("{}", Memory)]
+    Memory,
+}
+
+impl From<Memory> for MediaSetError {
+    ghost use Rattle.std.specs.Prelude.{◌≡◌};
+    ghost use Rattle.doc_hub_events.specs.declared.refusal.MediaSetError.TheVariants as refusals;
+
+    ghost from_gives = { λ _ e. e ≡ refusals.Memory };
+
+    fn from(_e: Memory) -> MediaSetError {
+        MediaSetError::Memory
+    }
+}
+
 /// Why an event did nothing: the refusals of all calls, under the names that they have there.
 #[derive(Clone, Copy, Debug, PartialEq, Eq, Error)]
 pub enum Refusal {
@@ -194,6 +215,17 @@ impl From<ReaderError> for Refusal {
         match error {
             ReaderError::BadToken => Refusal::BadToken,
             ReaderError::Memory => Refusal::Memory,
+        }
+    }
+}
+
+impl From<MediaSetError> for Refusal {
+    ghost from_gives = { λ error refusal. refusal ≡ media_refusal error };
+
+    fn from(error: MediaSetError) -> Refusal {
+        match error {
+            MediaSetError::Taken => Refusal::Taken,
+            MediaSetError::Memory => Refusal::Memory,
         }
     }
 }

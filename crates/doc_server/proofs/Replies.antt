@@ -144,6 +144,7 @@ sent_nothing (outcomes.Refused x) ends = absurd ends
 sent_nothing outcomes.Moved ends = absurd ends
 sent_nothing outcomes.ReadersSet ends = absurd ends
 sent_nothing outcomes.PutsSet ends = absurd ends
+sent_nothing outcomes.MediaSet ends = absurd ends
 sent_nothing (outcomes.Stepped (steps.Sent bytes)) ends = absurd ends
 sent_nothing (outcomes.Stepped (steps.Last bytes)) ends = absurd ends
 sent_nothing (outcomes.Stepped steps.More) ends = refl

@@ -1,12 +1,14 @@
 -- The laws of a turn, event after event.
 use Rattle.std.proofs.Common.{◌≡◌, ◌≤◌, All, List, [], ◌∷◌, ◌++◌, refl, ap, sym, ◌∙◌, subst}
 use Rattle.std.specs.Prelude.{Option, Some, None, IfSome, Ok, option_to_list}
-use Rattle.std.proofs.lemmas.List.Elements.{All-head, All-tail}
+use Rattle.std.proofs.lemmas.List.Elements.{All-cons, All-head, All-nil, All-tail, All-weaker}
 use Rattle.doc_store.specs.Store.{StoreState}
 use Rattle.doc_store.specs.declared.site_edit.SiteEdit.{SiteEdit}
 use Rattle.doc_hub_answers.specs.Replies.{Renders}
 use Rattle.doc_hub_events.specs.declared.event.Event.{Event}
+use Rattle.doc_hub_events.specs.declared.event.Event.TheVariants as events
 use Rattle.doc_hub_events.specs.declared.outcome.Outcome.{Outcome}
+use Rattle.doc_hub.specs.MediaLaws.{KeepsMedia}
 use Rattle.doc_hub.specs.Runs.{Happened, Leaves, Runs, nothing, first}
 use Rattle.doc_hub.specs.Worlds.{IsApart, World, store_of}
 use Rattle.doc_server_script.specs.PageLines.{lines_of}
@@ -26,6 +28,16 @@ use Rattle.doc_server_kept.proofs.ToldOfCalls.{told_is}
 
 abbrev AreOfServer : List Happened → Type 0
 AreOfServer run = All (λ h. IsOfServer h.event) run
+
+-- none of them sets media
+keeps_media : (event : Event) → IsOfServer event → KeepsMedia event
+keeps_media events.Connect is = tt
+keeps_media (events.On id call) is = tt
+keeps_media (events.TakePuts takes) is = tt
+keeps_media event is = absurd is
+
+keep_media : (run : List Happened) → AreOfServer run → All (λ h. KeepsMedia h.event) run
+keep_media run servers = All-weaker (λ h. IsOfServer h.event) (λ h. KeepsMedia h.event) (λ h is. keeps_media h.event is) run servers
 
 starts : (render : Renders) (v u : World) (run : List Happened) → Runs render v run u → left_by run u ≡ v
 starts render v u run (nothing x) = refl
@@ -129,8 +141,10 @@ module _ (render : Renders) where
       let one = one_event x y z rest event outcome edit runs (first_of x event outcome rest servers) leaves made.0 in
       let after = of_calls render x y edit one is in
       let step = just x y event outcome leaves in
+      let kept = All-cons (λ h. KeepsMedia h.event) (here x event outcome) []
+      (keeps_media event (first_of x event outcome rest servers)) (All-nil (λ h. KeepsMedia h.event)) in
       lead_more media x y z edit (accepted edits) s same is apart (follows render x y edit one) stands
-      (λ next there. turn_leads media y z rest edits next (media_stand_apart.stand render x y _ step ∙ same) after.0
+      (λ next there. turn_leads media y z rest edits next (media_stand_apart.stand render x y _ step kept ∙ same) after.0
       (media_stand_apart.apart render x y _ apart step) runs (others_of x event outcome rest servers) made.1 there)
 
   -- a turn without edits leaves the store
@@ -159,7 +173,7 @@ turn_is_restored render config w v run edits texts is apart runs servers made be
     record {
       store = store;
       gives = subst (λ m. restored m (unstamped config) (texts ++ lines_of (accepted edits) ∷ []) ≡ Ok store)
-          (sym (media_stand_apart.stand render w v run runs))
+          (sym (media_stand_apart.stand render w v run runs (keep_media run servers)))
           (one_record_more w.media (lines_of (accepted edits)) (accepted edits)
           (lines_are_read (accepted edits) (turn_edits render w v run edits is runs servers made))
           texts 1 (unstamped config) before.store store before.gives all);
@@ -173,7 +187,8 @@ quiet_turn_is_restored render config w v run edits texts runs servers made none 
     (record { site = before.site; puts = before.puts }) in
     record {
       store = before.store;
-      gives = subst (λ m. restored m (unstamped config) texts ≡ Ok before.store) (sym (media_stand_apart.stand render w v run runs)) before.gives;
+      gives = subst (λ m. restored m (unstamped config) texts ≡ Ok before.store)
+          (sym (media_stand_apart.stand render w v run runs (keep_media run servers))) before.gives;
       site = stands.site;
       puts = stands.puts;
     }

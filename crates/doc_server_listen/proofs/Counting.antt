@@ -210,6 +210,7 @@ module _ (render : Renders) (w v : World) where
   event_counts (events.Site asked) outcome edit peer leaves makes = absurd (no_peer (events.Site asked) refl peer)
   event_counts (events.Reader asked) outcome edit peer leaves makes = absurd (no_peer (events.Reader asked) refl peer)
   event_counts (events.TakePuts takes) outcome edit peer leaves makes = absurd (no_peer (events.TakePuts takes) refl peer)
+  event_counts (events.SetMedia media) outcome edit peer leaves makes = absurd (no_peer (events.SetMedia media) refl peer)
 
 -- ---- a run
 

@@ -54,4 +54,5 @@ outcome_line (outcomes.ReaderSet set) = set_word set
 outcome_line (outcomes.ReaderRemoved stood) = truth_word stood
 outcome_line outcomes.ReadersSet = codes "ok"
 outcome_line outcomes.PutsSet = codes "ok"
+outcome_line outcomes.MediaSet = codes "ok"
 outcome_line (outcomes.Refused refusal) = codes "refused " ++ refusal_name refusal

@@ -23,7 +23,9 @@ pub fn push_outcome(out: &mut String, outcome: &Outcome) -> Result<(), Memory>
 {
     match outcome {
         Outcome::Conn(id) => push_connection(out, *id),
-        Outcome::Pushed | Outcome::ReadersSet | Outcome::PutsSet => push_plain(out, "ok"),
+        Outcome::Pushed | Outcome::ReadersSet | Outcome::PutsSet | Outcome::MediaSet => {
+            push_plain(out, "ok")
+        }
         Outcome::Stepped(step) => push_step(out, step),
         Outcome::Disconnected(stood) | Outcome::Removed(stood) | Outcome::ReaderRemoved(stood) => {
             push_plain(out, truth_word(*stood))

@@ -1,8 +1,9 @@
 //! Events, as a line writes them: `connect`, `push ID BYTES`, `step ID`, `disconnect ID`, `put PATH | GROUPS | TEXT`, `remove PATH`,
 //! `move FROM | TO`, `reader TOKEN | READER`, where the reader is `owner` or has these groups, `unreader TOKEN`, `readers TOML`, and
-//! `puts taken` or `puts refused`.
+//! `puts taken` or `puts refused`, and `media` with what `media` says.
 
 use crate::given::{both, connection, groups_of, id_and_bytes, path_of, reader_of, text_of, two};
+use crate::media::set_media;
 use crate::stop::Stop;
 use doc_hub::event::{ConnectionEvent, Event, ReaderEdit};
 use doc_page_parts::bytes::Bytes;
@@ -45,7 +46,7 @@ pub fn event_of(heap: Heap, name: &str, given: &str) -> Result<Event, Stop> {
     }
 }
 
-/// The event of this name that changes pages or readers.
+/// The event of this name that changes pages, readers or media.
 fn edit_of(heap: Heap, name: &str, given: &str) -> Result<Event, Stop> {
     match name {
         "put" => put(heap, given),
@@ -54,6 +55,7 @@ fn edit_of(heap: Heap, name: &str, given: &str) -> Result<Event, Stop> {
         "reader" => set_reader(heap, given),
         "unreader" => Ok(Event::Reader(ReaderEdit::Remove(text_of(heap, given)?))),
         "readers" => set_readers(heap, given),
+        "media" => set_media(heap, given),
         _ => Err(Stop::NoCall),
     }
 }

@@ -27,6 +27,7 @@ mod given;
 mod hubs;
 mod in_turn;
 mod listen;
+mod media;
 mod outcomes;
 mod programs;
 mod requests;

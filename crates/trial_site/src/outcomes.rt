@@ -27,7 +27,7 @@ fn word_of(outcome: &Outcome) -> &'static str {
         Outcome::Stepped(_) => "closed",
         Outcome::Edited(Put::Created) => "created",
         Outcome::Moved => "moved",
-        Outcome::ReadersSet | Outcome::PutsSet => "set",
+        Outcome::ReadersSet | Outcome::PutsSet | Outcome::MediaSet => "set",
         Outcome::ReaderSet(Set::Added) => "added",
         Outcome::Edited(_) | Outcome::ReaderSet(_) => "replaced",
         Outcome::Disconnected(true) | Outcome::Removed(true) | Outcome::ReaderRemoved(true) => {

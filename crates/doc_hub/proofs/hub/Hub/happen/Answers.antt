@@ -59,3 +59,15 @@ returns-in-TakePuts-clause-counted g c =
     (g.R.Renderer.count c.take_puts.new.self.0) c.args.self.now.1 c.take_puts.new.self.1
     c.args.event.now (events.TakePuts c.in-TakePuts.takes) _ c.take_puts.result c.in-TakePuts.is c.take_puts.ensures.world
     c.take_puts.ensures.counted refl
+
+pub returns-in-SetMedia-clause-world : goal.returns-in-SetMedia-clause-world
+returns-in-SetMedia-clause-world g c =
+    leaves_so (g.R.Renderer.page c.args.self.now.0) c.args.self.now.1 c.args.event.now (events.SetMedia c.in-SetMedia.media)
+    c.set_media_copies.new.self.1 _ c.set_media_copies.result c.in-SetMedia.is c.set_media_copies.ensures.world c.from-in-SetMedia.ensures
+
+pub returns-in-SetMedia-clause-counted : goal.returns-in-SetMedia-clause-counted
+returns-in-SetMedia-clause-counted g c =
+    counted_so (g.R.Renderer.page c.args.self.now.0) (g.R.Renderer.count c.args.self.now.0)
+    (g.R.Renderer.count c.set_media_copies.new.self.0) c.args.self.now.1 c.set_media_copies.new.self.1
+    c.args.event.now (events.SetMedia c.in-SetMedia.media) _ c.set_media_copies.result c.in-SetMedia.is c.set_media_copies.ensures.world
+    c.set_media_copies.ensures.counted c.from-in-SetMedia.ensures
