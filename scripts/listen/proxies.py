@@ -94,13 +94,15 @@ class Nginx(Direct):
 
 
 class Haproxy(Direct):
-    """haproxy by the template, in front of a server that takes edits, and of another one that reads are shared with."""
+    """haproxy by the template, in front of a server that takes edits, of another one that reads are shared with, and of the address at
+    which a third may take the first one's place. `more` are lines of the backend that is read of."""
 
-    def __init__(self, scene, writer, reader):
+    def __init__(self, scene, writer, follower, standby=None, more=""):
         super().__init__(scene, free_port())
+        ports = {"LISTEN": self.port, "WRITER": writer, "FOLLOWER": follower, "STANDBY": standby or free_port()}
         with open("site/haproxy.cfg.template") as template:
-            words = {"@LISTEN@": f"{HOST}:{self.port}", "@WRITER@": f"{HOST}:{writer}", "@READER@": f"{HOST}:{reader}"}
-            put(f"{scene.scratch}/haproxy.cfg", filled(template.read(), words))
+            text = filled(template.read(), {f"@{word}@": f"{HOST}:{port}" for word, port in ports.items()})
+        put(f"{scene.scratch}/haproxy.cfg", text + more)
         self.process = start(["haproxy", "-f", f"{scene.scratch}/haproxy.cfg", "-db"], stderr=subprocess.DEVNULL)
 
     begins, ends = Nginx.begins, Nginx.ends
