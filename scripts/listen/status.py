@@ -8,7 +8,7 @@ Builds nothing. Needs python3. Some seconds.
 """
 import os, re, socket, sys, time
 sys.path.insert(1, os.path.dirname(__file__) + "/../lib")
-from scene import HOST, OWNER, Client, Refused, Scene, free_port, put, request, until
+from scene import HOST, OWNER, Client, Refused, Scene, free_port, got, put, request, until
 import prometheus
 
 scene = Scene(seconds=200)
@@ -19,7 +19,7 @@ SITE = OWNER + PAGE + LARGE
 # the metrics in their order, and their kinds
 METRICS = [("docs_requests_total", "counter"), ("docs_unauthorized_total", "counter"), ("docs_bytes_total", "counter"),
            ("docs_connections", "gauge"), ("docs_connections_most", "gauge"), ("docs_turn_seconds_max", "gauge"),
-           ("docs_pages", "gauge"), ("docs_journal_bytes", "gauge"), ("docs_reload_total", "counter"),
+           ("docs_pages", "gauge"), ("docs_journal_bytes", "gauge"), ("docs_record", "gauge"), ("docs_reload_total", "counter"),
            ("docs_reload_time_seconds", "gauge")]
 
 
@@ -87,7 +87,7 @@ def replies():
         code, head, body = get(site.door, "/health", method)
         wanted = "HTTP/1.1 200 OK\r\nContent-Type: text/plain; charset=utf-8\r\nContent-Length: 3\r\nConnection: close"
         scene.check(f"{method} /health", (code, head, body) == (200, wanted, b"ok\n" if method == "GET" else b""), (head, body))
-    for target in ("/", "/page/secret-plan.md", "/metrics/", "/health?x", "/Health", "*", "http://a/health", "/record"):
+    for target in ("/", "/page/secret-plan.md", "/metrics/", "/health?x", "/Health", "*", "http://a/health", "/record?", "/record/", "/record?least=x"):
         scene.check(f"GET {target}", get(site.door, target)[0] == 404)
     for method in ("POST", "PUT", "DELETE", "get", "OPTIONS"):
         code, head, _ = get(site.door, "/health", method)
@@ -174,6 +174,44 @@ def records():
     scene.ends(again.server, "records: behind a start")
 
 
+def told(door, query=""):
+    """What is told of the journal: the code, and the two words."""
+    code, _, body = get(door, f"/record{query}")
+    return code, *body.decode().split()
+
+
+def how_far():
+    """Which journal it is, and how many of its records are in the site, of a writer, of a follower and of one without a journal."""
+    site = Watched(journal="far")
+    identity = got("far")[22:54].decode()
+    owner = Client(site.server.port, "tok")
+    scene.check("how far: at the start", told(site.door) == (200, identity, "0"), told(site.door))
+    for count in range(1, 4):
+        scene.check(f"how far: edit {count}", owner.ask("/page/n.md", "PUT", b"New")[0] in (201, 204))
+        scene.check(f"how far: behind it {count}", until(lambda: told(site.door) == (200, identity, str(count)), 5), told(site.door))
+    owner.ask("/page/none.md", "DELETE")
+    owner.ask("/page/large.md")
+    door = free_port()
+    follower = scene.listen("site.toml", options=["--follow", "far", "--status", f"{HOST}:{door}"])
+    scene.check("how far: a follower", until(lambda: told(door) == (200, identity, "3"), 5), told(door))
+    for query, code in (("?least=3", 200), ("?least=4", 503), (f"?of={identity}", 200), (f"?of={identity}&least=3", 200),
+                        (f"?least=4&of={identity}", 503), ("?of=" + "0" * 32, 503), ("?of=x", 404), ("?least=3&least=3", 404)):
+        scene.check(f"how far: {query}", (told(site.door, query)[0], told(door, query)[0]) == (code, code), told(site.door, query))
+    owner.ask("/page/n.md", "DELETE")
+    scene.check("how far: both", until(lambda: told(site.door)[2] == told(door, "?least=4")[2] == "4", 5), (told(site.door), told(door)))
+    scene.check("how far: the end of the follower", follower.end() == 0)
+    scene.ends(site.server, "how far: the end of the writer")
+    again = Watched(journal="far")
+    scene.check("how far: behind a start", told(again.door) == (200, identity, "4"), told(again.door))
+    scene.ends(again.server, "how far: the end behind a start")
+    alone = Watched()
+    scene.check("how far: no journal", (told(alone.door), told(alone.door, "?least=0")[0], told(alone.door, "?least=1")[0])
+                == ((200, "-", "0"), 200, 503), told(alone.door))
+    code, head, _ = get(alone.door, "/record", "PUT")
+    scene.check("how far: no other method", code == 405 and "\r\nAllow: GET, HEAD\r\n" in head, head)
+    alone.ends("how far: no journal")
+
+
 def reloads():
     """Reloads are counted by what came of them."""
     site = Watched()
@@ -232,7 +270,7 @@ def taken():
 
 
 def main():
-    for it in (replies, counters, pages, records, reloads, silent, taken):
+    for it in (replies, counters, pages, records, how_far, reloads, silent, taken):
         it()
 
 

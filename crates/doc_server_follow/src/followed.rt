@@ -66,6 +66,13 @@ fn header_of(bytes: &[u8]) -> [u8; 55]
 }
 
 impl Followed {
+    /// The journal's header.
+    pub fn header(&self) -> &[u8]
+        ensures { result.now ≡ self.now.header }
+    {
+        self.header.as_slice()
+    }
+
     /// How many records were taken.
     pub fn records(&self) -> usize
         ensures { result ≡ self.now.records }

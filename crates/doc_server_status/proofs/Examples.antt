@@ -3,17 +3,28 @@ use Rattle.std.proofs.Common.{◌≡◌, [], ◌++◌, codes, replicate, refl}
 use Rattle.std.specs.Prelude.{Some, None}
 use Rattle.std.specs.Fmt.{digits}
 use Rattle.doc_server_status.specs.declared.counters.Counters.{Counters}
-use Rattle.doc_server_status.specs.Counts.{after_join, after_reply, no_replies, nothing_counted, replies_with}
+use Rattle.doc_server_status.specs.declared.standing.JournalStanding.{JournalStanding}
+use Rattle.doc_server_status.specs.Counts.{after_join, after_reply, no_replies, no_standing, nothing_counted, replies_with}
 use Rattle.doc_server_status.specs.Cuts.{cut_at}
 use Rattle.doc_server_status.specs.Door.{replied_to, said_at, said_to, status_reply}
-use Rattle.doc_server_status.specs.Metrics.{connection_metrics, heading, metric, metrics_text, reload_metric, reply_metrics, requests_metric, sample, standing_metrics, turn_metric}
+use Rattle.doc_server_status.specs.Metrics.{connection_metrics, heading, journal_metrics, metric, metrics_text, reload_metric, reply_metrics, requests_metric, sample, standing_metrics, turn_metric}
+use Rattle.doc_server_status.specs.Queries.{number_in, part_in, wanted_in}
+use Rattle.doc_server_status.specs.Records.{record_said, record_text}
 use Rattle.doc_server_status.specs.Replies.{head_of, length_line, reason_of, status_line, type_line, written}
 use Rattle.doc_server_status.specs.RequestLines.{asked_in}
+use Rattle.doc_server_status.specs.Targets.{path_in, wanted_at}
 
 -- one name to unfold where an example computes
 unfoldable computing : Unit {0}
-unfolding asked_in connection_metrics cut_at digits head_of heading length_line metric metrics_text reason_of reload_metric replied_to reply_metrics requests_metric said_at said_to sample standing_metrics status_line status_reply turn_metric type_line written
+unfolding asked_in connection_metrics cut_at digits head_of heading journal_metrics length_line metric metrics_text number_in part_in path_in reason_of record_said record_text reload_metric replied_to reply_metrics requests_metric said_at said_to sample standing_metrics status_line status_reply turn_metric type_line wanted_at wanted_in written
 computing = tt
+
+abbrev a_journal : JournalStanding
+a_journal = record { identity = record { digits = codes "00112233445566778899aabbccddeeff"; hexadecimal = refl }; records = 17 }
+
+-- nothing was counted, and 17 records of the journal are in the site
+abbrev with_journal : Counters
+with_journal = record nothing_counted { standing = record no_standing { journal = Some a_journal } }
 
 abbrev much_counted : Counters
 much_counted = record {
@@ -23,7 +34,14 @@ much_counted = record {
   connections = 7;
   connections_most = 8;
   turn_micros_most = 184;
-  standing = record { pages = 9; journal_bytes = 10240; reloads_done = 11; reloads_refused = 12; reload_seconds = 1764507600 };
+  standing = record {
+    pages = 9;
+    journal_bytes = 10240;
+    journal = Some a_journal;
+    reloads_done = 11;
+    reloads_refused = 12;
+    reload_seconds = 1764507600;
+  };
 }
 
 -- ---- health: the same whatever is counted
@@ -49,7 +67,7 @@ head_of_health counters = refl
 -- ---- metrics
 
 metrics_of_nothing : status_reply (codes "GET /metrics HTTP/1.1") nothing_counted
-    ≡ Some (codes "HTTP/1.1 200 OK\r\nContent-Type: text/plain; version=0.0.4; charset=utf-8\r\nContent-Length: 1380\r\n"
+    ≡ Some (codes "HTTP/1.1 200 OK\r\nContent-Type: text/plain; version=0.0.4; charset=utf-8\r\nContent-Length: 1474\r\n"
     ++ codes "Connection: close\r\n\r\n"
     ++ codes "# HELP docs_requests_total Requests that were answered, by the class of the code.\n"
     ++ codes "# TYPE docs_requests_total counter\ndocs_requests_total{class=\"2xx\"} 0\n"
@@ -66,6 +84,7 @@ metrics_of_nothing : status_reply (codes "GET /metrics HTTP/1.1") nothing_counte
     ++ codes "# HELP docs_pages Pages that stand.\n# TYPE docs_pages gauge\ndocs_pages 0\n"
     ++ codes "# HELP docs_journal_bytes Bytes of the journal's records.\n"
     ++ codes "# TYPE docs_journal_bytes gauge\ndocs_journal_bytes 0\n"
+    ++ codes "# HELP docs_record Records of the journal in the site.\n# TYPE docs_record gauge\ndocs_record 0\n"
     ++ codes "# HELP docs_reload_total Lines `reload` that were heard, by what came of them.\n"
     ++ codes "# TYPE docs_reload_total counter\ndocs_reload_total{result=\"done\"} 0\n"
     ++ codes "docs_reload_total{result=\"refused\"} 0\n"
@@ -75,7 +94,7 @@ unfolding computing
 metrics_of_nothing = refl
 
 metrics_of_all : status_reply (codes "GET /metrics HTTP/1.1") much_counted
-    ≡ Some (codes "HTTP/1.1 200 OK\r\nContent-Type: text/plain; version=0.0.4; charset=utf-8\r\nContent-Length: 1416\r\n"
+    ≡ Some (codes "HTTP/1.1 200 OK\r\nContent-Type: text/plain; version=0.0.4; charset=utf-8\r\nContent-Length: 1511\r\n"
     ++ codes "Connection: close\r\n\r\n"
     ++ codes "# HELP docs_requests_total Requests that were answered, by the class of the code.\n"
     ++ codes "# TYPE docs_requests_total counter\ndocs_requests_total{class=\"2xx\"} 18446744073709551615\n"
@@ -92,6 +111,7 @@ metrics_of_all : status_reply (codes "GET /metrics HTTP/1.1") much_counted
     ++ codes "# HELP docs_pages Pages that stand.\n# TYPE docs_pages gauge\ndocs_pages 9\n"
     ++ codes "# HELP docs_journal_bytes Bytes of the journal's records.\n"
     ++ codes "# TYPE docs_journal_bytes gauge\ndocs_journal_bytes 10240\n"
+    ++ codes "# HELP docs_record Records of the journal in the site.\n# TYPE docs_record gauge\ndocs_record 17\n"
     ++ codes "# HELP docs_reload_total Lines `reload` that were heard, by what came of them.\n"
     ++ codes "# TYPE docs_reload_total counter\ndocs_reload_total{result=\"done\"} 11\n"
     ++ codes "docs_reload_total{result=\"refused\"} 12\n"
@@ -101,10 +121,270 @@ unfolding computing
 metrics_of_all = refl
 
 head_of_metrics : status_reply (codes "HEAD /metrics HTTP/1.1") much_counted
-    ≡ Some (codes "HTTP/1.1 200 OK\r\nContent-Type: text/plain; version=0.0.4; charset=utf-8\r\nContent-Length: 1416\r\n"
+    ≡ Some (codes "HTTP/1.1 200 OK\r\nContent-Type: text/plain; version=0.0.4; charset=utf-8\r\nContent-Length: 1511\r\n"
     ++ codes "Connection: close\r\n\r\n")
 unfolding computing
 head_of_metrics = refl
+
+-- ---- the journal's records, without a journal
+
+no_journal : status_reply (codes "GET /record HTTP/1.1") nothing_counted
+    ≡ Some (codes "HTTP/1.1 200 OK\r\nContent-Type: text/plain; charset=utf-8\r\nContent-Length: 4\r\n"
+    ++ codes "Connection: close\r\n\r\n- 0\n")
+unfolding computing
+no_journal = refl
+
+no_records_of_no_journal : status_reply (codes "GET /record?least=0 HTTP/1.1") nothing_counted
+    ≡ Some (codes "HTTP/1.1 200 OK\r\nContent-Type: text/plain; charset=utf-8\r\nContent-Length: 4\r\n"
+    ++ codes "Connection: close\r\n\r\n- 0\n")
+unfolding computing
+no_records_of_no_journal = refl
+
+a_record_of_no_journal : status_reply (codes "GET /record?least=1 HTTP/1.1") nothing_counted
+    ≡ Some (codes "HTTP/1.1 503 Service Unavailable\r\nContent-Type: text/plain; charset=utf-8\r\nContent-Length: 4\r\n"
+    ++ codes "Connection: close\r\n\r\n- 0\n")
+unfolding computing
+a_record_of_no_journal = refl
+
+no_journal_is_named : status_reply (codes "GET /record?of=00112233445566778899aabbccddeeff HTTP/1.1") nothing_counted
+    ≡ Some (codes "HTTP/1.1 503 Service Unavailable\r\nContent-Type: text/plain; charset=utf-8\r\nContent-Length: 4\r\n"
+    ++ codes "Connection: close\r\n\r\n- 0\n")
+unfolding computing
+no_journal_is_named = refl
+
+-- ---- with one
+
+the_record : status_reply (codes "GET /record HTTP/1.1") with_journal
+    ≡ Some (codes "HTTP/1.1 200 OK\r\nContent-Type: text/plain; charset=utf-8\r\nContent-Length: 36\r\n"
+    ++ codes "Connection: close\r\n\r\n00112233445566778899aabbccddeeff 17\n")
+unfolding computing
+the_record = refl
+
+head_of_the_record : status_reply (codes "HEAD /record HTTP/1.1") with_journal
+    ≡ Some (codes "HTTP/1.1 200 OK\r\nContent-Type: text/plain; charset=utf-8\r\nContent-Length: 36\r\n"
+    ++ codes "Connection: close\r\n\r\n")
+unfolding computing
+head_of_the_record = refl
+
+as_many_as_are_wanted : status_reply (codes "GET /record?least=17 HTTP/1.1") with_journal
+    ≡ Some (codes "HTTP/1.1 200 OK\r\nContent-Type: text/plain; charset=utf-8\r\nContent-Length: 36\r\n"
+    ++ codes "Connection: close\r\n\r\n00112233445566778899aabbccddeeff 17\n")
+unfolding computing
+as_many_as_are_wanted = refl
+
+one_more_is_wanted : status_reply (codes "GET /record?least=18 HTTP/1.1") with_journal
+    ≡ Some (codes "HTTP/1.1 503 Service Unavailable\r\nContent-Type: text/plain; charset=utf-8\r\nContent-Length: 36\r\n"
+    ++ codes "Connection: close\r\n\r\n00112233445566778899aabbccddeeff 17\n")
+unfolding computing
+one_more_is_wanted = refl
+
+head_of_one_more : status_reply (codes "HEAD /record?least=18 HTTP/1.1") with_journal
+    ≡ Some (codes "HTTP/1.1 503 Service Unavailable\r\nContent-Type: text/plain; charset=utf-8\r\nContent-Length: 36\r\n"
+    ++ codes "Connection: close\r\n\r\n")
+unfolding computing
+head_of_one_more = refl
+
+twenty_digits : status_reply (codes "GET /record?least=00000000000000000017 HTTP/1.1") with_journal
+    ≡ Some (codes "HTTP/1.1 200 OK\r\nContent-Type: text/plain; charset=utf-8\r\nContent-Length: 36\r\n"
+    ++ codes "Connection: close\r\n\r\n00112233445566778899aabbccddeeff 17\n")
+unfolding computing
+twenty_digits = refl
+
+the_largest_number : status_reply (codes "GET /record?least=18446744073709551615 HTTP/1.1") with_journal
+    ≡ Some (codes "HTTP/1.1 503 Service Unavailable\r\nContent-Type: text/plain; charset=utf-8\r\nContent-Length: 36\r\n"
+    ++ codes "Connection: close\r\n\r\n00112233445566778899aabbccddeeff 17\n")
+unfolding computing
+the_largest_number = refl
+
+of_the_journal : status_reply (codes "GET /record?of=00112233445566778899aabbccddeeff HTTP/1.1") with_journal
+    ≡ Some (codes "HTTP/1.1 200 OK\r\nContent-Type: text/plain; charset=utf-8\r\nContent-Length: 36\r\n"
+    ++ codes "Connection: close\r\n\r\n00112233445566778899aabbccddeeff 17\n")
+unfolding computing
+of_the_journal = refl
+
+of_another_journal : status_reply (codes "GET /record?of=00112233445566778899aabbccddeefe HTTP/1.1") with_journal
+    ≡ Some (codes "HTTP/1.1 503 Service Unavailable\r\nContent-Type: text/plain; charset=utf-8\r\nContent-Length: 36\r\n"
+    ++ codes "Connection: close\r\n\r\n00112233445566778899aabbccddeeff 17\n")
+unfolding computing
+of_another_journal = refl
+
+of_the_journal_as_many : status_reply (codes "GET /record?of=00112233445566778899aabbccddeeff&least=17 HTTP/1.1") with_journal
+    ≡ Some (codes "HTTP/1.1 200 OK\r\nContent-Type: text/plain; charset=utf-8\r\nContent-Length: 36\r\n"
+    ++ codes "Connection: close\r\n\r\n00112233445566778899aabbccddeeff 17\n")
+unfolding computing
+of_the_journal_as_many = refl
+
+in_the_other_order : status_reply (codes "GET /record?least=17&of=00112233445566778899aabbccddeeff HTTP/1.1") with_journal
+    ≡ Some (codes "HTTP/1.1 200 OK\r\nContent-Type: text/plain; charset=utf-8\r\nContent-Length: 36\r\n"
+    ++ codes "Connection: close\r\n\r\n00112233445566778899aabbccddeeff 17\n")
+unfolding computing
+in_the_other_order = refl
+
+of_the_journal_one_more : status_reply (codes "GET /record?of=00112233445566778899aabbccddeeff&least=18 HTTP/1.1") with_journal
+    ≡ Some (codes "HTTP/1.1 503 Service Unavailable\r\nContent-Type: text/plain; charset=utf-8\r\nContent-Length: 36\r\n"
+    ++ codes "Connection: close\r\n\r\n00112233445566778899aabbccddeeff 17\n")
+unfolding computing
+of_the_journal_one_more = refl
+
+of_another_journal_as_many : status_reply (codes "GET /record?least=17&of=00112233445566778899aabbccddeefe HTTP/1.1") with_journal
+    ≡ Some (codes "HTTP/1.1 503 Service Unavailable\r\nContent-Type: text/plain; charset=utf-8\r\nContent-Length: 36\r\n"
+    ++ codes "Connection: close\r\n\r\n00112233445566778899aabbccddeeff 17\n")
+unfolding computing
+of_another_journal_as_many = refl
+
+-- ---- bad queries of it
+
+an_empty_query : (counters : Counters) → status_reply (codes "GET /record? HTTP/1.1") counters
+    ≡ Some (codes "HTTP/1.1 404 Not Found\r\nContent-Type: text/plain; charset=utf-8\r\nContent-Length: 14\r\n"
+    ++ codes "Connection: close\r\n\r\n404 Not Found\n")
+unfolding computing
+an_empty_query counters = refl
+
+no_value : (counters : Counters) → status_reply (codes "GET /record?least HTTP/1.1") counters
+    ≡ Some (codes "HTTP/1.1 404 Not Found\r\nContent-Type: text/plain; charset=utf-8\r\nContent-Length: 14\r\n"
+    ++ codes "Connection: close\r\n\r\n404 Not Found\n")
+unfolding computing
+no_value counters = refl
+
+an_empty_value : (counters : Counters) → status_reply (codes "GET /record?least= HTTP/1.1") counters
+    ≡ Some (codes "HTTP/1.1 404 Not Found\r\nContent-Type: text/plain; charset=utf-8\r\nContent-Length: 14\r\n"
+    ++ codes "Connection: close\r\n\r\n404 Not Found\n")
+unfolding computing
+an_empty_value counters = refl
+
+a_sign : (counters : Counters) → status_reply (codes "GET /record?least=+1 HTTP/1.1") counters
+    ≡ Some (codes "HTTP/1.1 404 Not Found\r\nContent-Type: text/plain; charset=utf-8\r\nContent-Length: 14\r\n"
+    ++ codes "Connection: close\r\n\r\n404 Not Found\n")
+unfolding computing
+a_sign counters = refl
+
+a_letter : (counters : Counters) → status_reply (codes "GET /record?least=1a HTTP/1.1") counters
+    ≡ Some (codes "HTTP/1.1 404 Not Found\r\nContent-Type: text/plain; charset=utf-8\r\nContent-Length: 14\r\n"
+    ++ codes "Connection: close\r\n\r\n404 Not Found\n")
+unfolding computing
+a_letter counters = refl
+
+twenty_one_digits : (counters : Counters) → status_reply (codes "GET /record?least=000000000000000000017 HTTP/1.1") counters
+    ≡ Some (codes "HTTP/1.1 404 Not Found\r\nContent-Type: text/plain; charset=utf-8\r\nContent-Length: 14\r\n"
+    ++ codes "Connection: close\r\n\r\n404 Not Found\n")
+unfolding computing
+twenty_one_digits counters = refl
+
+a_number_too_large : (counters : Counters) → status_reply (codes "GET /record?least=18446744073709551616 HTTP/1.1") counters
+    ≡ Some (codes "HTTP/1.1 404 Not Found\r\nContent-Type: text/plain; charset=utf-8\r\nContent-Length: 14\r\n"
+    ++ codes "Connection: close\r\n\r\n404 Not Found\n")
+unfolding computing
+a_number_too_large counters = refl
+
+a_part_behind_that_is_empty : (counters : Counters) → status_reply (codes "GET /record?least=1& HTTP/1.1") counters
+    ≡ Some (codes "HTTP/1.1 404 Not Found\r\nContent-Type: text/plain; charset=utf-8\r\nContent-Length: 14\r\n"
+    ++ codes "Connection: close\r\n\r\n404 Not Found\n")
+unfolding computing
+a_part_behind_that_is_empty counters = refl
+
+a_part_in_front_that_is_empty : (counters : Counters) → status_reply (codes "GET /record?&least=1 HTTP/1.1") counters
+    ≡ Some (codes "HTTP/1.1 404 Not Found\r\nContent-Type: text/plain; charset=utf-8\r\nContent-Length: 14\r\n"
+    ++ codes "Connection: close\r\n\r\n404 Not Found\n")
+unfolding computing
+a_part_in_front_that_is_empty counters = refl
+
+least_twice : (counters : Counters) → status_reply (codes "GET /record?least=1&least=1 HTTP/1.1") counters
+    ≡ Some (codes "HTTP/1.1 404 Not Found\r\nContent-Type: text/plain; charset=utf-8\r\nContent-Length: 14\r\n"
+    ++ codes "Connection: close\r\n\r\n404 Not Found\n")
+unfolding computing
+least_twice counters = refl
+
+of_twice : (counters : Counters) → status_reply (codes "GET /record?of=00112233445566778899aabbccddeeff&of=00112233445566778899aabbccddeeff HTTP/1.1") counters
+    ≡ Some (codes "HTTP/1.1 404 Not Found\r\nContent-Type: text/plain; charset=utf-8\r\nContent-Length: 14\r\n"
+    ++ codes "Connection: close\r\n\r\n404 Not Found\n")
+unfolding computing
+of_twice counters = refl
+
+three_parts : (counters : Counters) → status_reply (codes "GET /record?least=1&of=00112233445566778899aabbccddeeff&least=1 HTTP/1.1") counters
+    ≡ Some (codes "HTTP/1.1 404 Not Found\r\nContent-Type: text/plain; charset=utf-8\r\nContent-Length: 14\r\n"
+    ++ codes "Connection: close\r\n\r\n404 Not Found\n")
+unfolding computing
+three_parts counters = refl
+
+another_key : (counters : Counters) → status_reply (codes "GET /record?most=1 HTTP/1.1") counters
+    ≡ Some (codes "HTTP/1.1 404 Not Found\r\nContent-Type: text/plain; charset=utf-8\r\nContent-Length: 14\r\n"
+    ++ codes "Connection: close\r\n\r\n404 Not Found\n")
+unfolding computing
+another_key counters = refl
+
+a_key_in_capitals : (counters : Counters) → status_reply (codes "GET /record?Least=1 HTTP/1.1") counters
+    ≡ Some (codes "HTTP/1.1 404 Not Found\r\nContent-Type: text/plain; charset=utf-8\r\nContent-Length: 14\r\n"
+    ++ codes "Connection: close\r\n\r\n404 Not Found\n")
+unfolding computing
+a_key_in_capitals counters = refl
+
+another_key_behind : (counters : Counters) → status_reply (codes "GET /record?of=00112233445566778899aabbccddeeff&most=1 HTTP/1.1") counters
+    ≡ Some (codes "HTTP/1.1 404 Not Found\r\nContent-Type: text/plain; charset=utf-8\r\nContent-Length: 14\r\n"
+    ++ codes "Connection: close\r\n\r\n404 Not Found\n")
+unfolding computing
+another_key_behind counters = refl
+
+thirty_one_digits : (counters : Counters) → status_reply (codes "GET /record?of=0112233445566778899aabbccddeeff HTTP/1.1") counters
+    ≡ Some (codes "HTTP/1.1 404 Not Found\r\nContent-Type: text/plain; charset=utf-8\r\nContent-Length: 14\r\n"
+    ++ codes "Connection: close\r\n\r\n404 Not Found\n")
+unfolding computing
+thirty_one_digits counters = refl
+
+thirty_three_digits : (counters : Counters) → status_reply (codes "GET /record?of=00112233445566778899aabbccddeeff0 HTTP/1.1") counters
+    ≡ Some (codes "HTTP/1.1 404 Not Found\r\nContent-Type: text/plain; charset=utf-8\r\nContent-Length: 14\r\n"
+    ++ codes "Connection: close\r\n\r\n404 Not Found\n")
+unfolding computing
+thirty_three_digits counters = refl
+
+digits_in_capitals : (counters : Counters) → status_reply (codes "GET /record?of=00112233445566778899AABBCCDDEEFF HTTP/1.1") counters
+    ≡ Some (codes "HTTP/1.1 404 Not Found\r\nContent-Type: text/plain; charset=utf-8\r\nContent-Length: 14\r\n"
+    ++ codes "Connection: close\r\n\r\n404 Not Found\n")
+unfolding computing
+digits_in_capitals counters = refl
+
+a_question_mark_more : (counters : Counters) → status_reply (codes "GET /record?least=1? HTTP/1.1") counters
+    ≡ Some (codes "HTTP/1.1 404 Not Found\r\nContent-Type: text/plain; charset=utf-8\r\nContent-Length: 14\r\n"
+    ++ codes "Connection: close\r\n\r\n404 Not Found\n")
+unfolding computing
+a_question_mark_more counters = refl
+
+a_longer_path : (counters : Counters) → status_reply (codes "GET /records HTTP/1.1") counters
+    ≡ Some (codes "HTTP/1.1 404 Not Found\r\nContent-Type: text/plain; charset=utf-8\r\nContent-Length: 14\r\n"
+    ++ codes "Connection: close\r\n\r\n404 Not Found\n")
+unfolding computing
+a_longer_path counters = refl
+
+a_slash_behind_the_record : (counters : Counters) → status_reply (codes "GET /record/ HTTP/1.1") counters
+    ≡ Some (codes "HTTP/1.1 404 Not Found\r\nContent-Type: text/plain; charset=utf-8\r\nContent-Length: 14\r\n"
+    ++ codes "Connection: close\r\n\r\n404 Not Found\n")
+unfolding computing
+a_slash_behind_the_record counters = refl
+
+-- ---- other methods of it
+
+a_post_to_the_record : (counters : Counters) → status_reply (codes "POST /record HTTP/1.1") counters
+    ≡ Some (codes "HTTP/1.1 405 Method Not Allowed\r\nContent-Type: text/plain; charset=utf-8\r\nContent-Length: 23\r\n"
+    ++ codes "Allow: GET, HEAD\r\nConnection: close\r\n\r\n405 Method Not Allowed\n")
+unfolding computing
+a_post_to_the_record counters = refl
+
+a_post_with_a_query : (counters : Counters) → status_reply (codes "POST /record?least=1 HTTP/1.1") counters
+    ≡ Some (codes "HTTP/1.1 405 Method Not Allowed\r\nContent-Type: text/plain; charset=utf-8\r\nContent-Length: 23\r\n"
+    ++ codes "Allow: GET, HEAD\r\nConnection: close\r\n\r\n405 Method Not Allowed\n")
+unfolding computing
+a_post_with_a_query counters = refl
+
+a_post_with_a_bad_query : (counters : Counters) → status_reply (codes "POST /record?most=1 HTTP/1.1") counters
+    ≡ Some (codes "HTTP/1.1 405 Method Not Allowed\r\nContent-Type: text/plain; charset=utf-8\r\nContent-Length: 23\r\n"
+    ++ codes "Allow: GET, HEAD\r\nConnection: close\r\n\r\n405 Method Not Allowed\n")
+unfolding computing
+a_post_with_a_bad_query counters = refl
+
+a_post_to_a_longer_path : (counters : Counters) → status_reply (codes "POST /records HTTP/1.1") counters
+    ≡ Some (codes "HTTP/1.1 404 Not Found\r\nContent-Type: text/plain; charset=utf-8\r\nContent-Length: 14\r\n"
+    ++ codes "Connection: close\r\n\r\n404 Not Found\n")
+unfolding computing
+a_post_to_a_longer_path counters = refl
 
 -- ---- nothing else is there
 

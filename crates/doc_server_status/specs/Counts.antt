@@ -1,5 +1,5 @@
 -- What the server counts.
-use Rattle.std.specs.Prelude.{ℕ, ◌+◌, ◌/◌, ◌==◌, if◌then◌else◌, max, min}
+use Rattle.std.specs.Prelude.{ℕ, ◌+◌, ◌/◌, ◌==◌, None, if◌then◌else◌, max, min}
 use Rattle.doc_server_status.specs.declared.counters.Counters.{Counters}
 use Rattle.doc_server_status.specs.declared.replies.Replies.{Replies}
 use Rattle.doc_server_status.specs.declared.standing.Standing.{Standing}
@@ -12,7 +12,14 @@ abbrev pub no_replies : Replies
 no_replies = record { successful = 0; redirected = 0; refused = 0; failed = 0 }
 
 abbrev pub no_standing : Standing
-no_standing = record { pages = 0; journal_bytes = 0; reloads_done = 0; reloads_refused = 0; reload_seconds = 0 }
+no_standing = record {
+  pages = 0;
+  journal_bytes = 0;
+  journal = None;
+  reloads_done = 0;
+  reloads_refused = 0;
+  reload_seconds = 0;
+}
 
 abbrev pub nothing_counted : Counters
 nothing_counted = record {

@@ -1,6 +1,11 @@
 pub mod Counts
 pub mod Cuts
+pub mod Digits
 pub mod Door
+pub mod Identities
 pub mod Metrics
+pub mod Queries
+pub mod Records
 pub mod Replies
 pub mod RequestLines
+pub mod Targets

@@ -3,6 +3,7 @@ use Rattle.std.specs.Prelude.{ℕ, List, ◌++◌, codes, decimal}
 use Rattle.doc_server_status.specs.declared.counters.Counters.{Counters}
 use Rattle.doc_server_status.specs.declared.replies.Replies.{Replies}
 use Rattle.doc_server_status.specs.declared.standing.Standing.{Standing}
+use Rattle.doc_server_status.specs.Records.{records_of}
 
 -- what a metric is, and its kind: two lines in front of its samples
 unfoldable pub heading : List ℕ → List ℕ → List ℕ → List ℕ
@@ -41,6 +42,12 @@ turn_metric micros =
     heading (codes "gauge") (codes "docs_turn_seconds_max") (codes "Seconds of the longest turn since the last look.")
     ++ (codes "docs_turn_seconds_max " ++ decimal micros ++ codes "e-6\n")
 
+-- the journal: the server's own, or the one that it follows
+unfoldable pub journal_metrics : Standing → List ℕ
+journal_metrics standing =
+    metric (codes "gauge") (codes "docs_journal_bytes") (codes "Bytes of the journal's records.") standing.journal_bytes
+    ++ metric (codes "gauge") (codes "docs_record") (codes "Records of the journal in the site.") (records_of standing.journal)
+
 -- reloads, by what came of them, and when one was last done
 unfoldable pub reload_metric : Standing → List ℕ
 reload_metric standing =
@@ -53,8 +60,7 @@ reload_metric standing =
 unfoldable pub standing_metrics : Standing → List ℕ
 standing_metrics standing =
     metric (codes "gauge") (codes "docs_pages") (codes "Pages that stand.") standing.pages
-    ++ metric (codes "gauge") (codes "docs_journal_bytes") (codes "Bytes of the journal's records.") standing.journal_bytes
-    ++ reload_metric standing
+    ++ journal_metrics standing ++ reload_metric standing
 
 unfoldable pub metrics_text : Counters → List ℕ
 metrics_text counters =

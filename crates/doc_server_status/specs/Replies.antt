@@ -2,10 +2,11 @@
 use Rattle.std.specs.Prelude.{ℕ, ◌==◌, Bool, List, [], ◌++◌, codes, decimal, if◌then◌else◌, length}
 use Rattle.doc_server_status.specs.declared.head.Shown.{Shown}
 
--- the reason phrase of 200, 404 or 405, the codes that are said here (RFC 9110, section 15)
+-- the reason phrase of 200, 404, 405 or 503, the codes that are said here (RFC 9110, section 15)
 unfoldable pub reason_of : ℕ → List ℕ
 reason_of code =
-    if code == 200 then codes "OK" else (if code == 404 then codes "Not Found" else codes "Method Not Allowed")
+    if code == 200 then codes "OK" else (if code == 404 then codes "Not Found"
+    else (if code == 503 then codes "Service Unavailable" else codes "Method Not Allowed"))
 
 -- the type of the content (RFC 9110, section 8.3; Prometheus' text format)
 abbrev pub kind_of : Bool → List ℕ

@@ -1,13 +1,15 @@
 //! What is replied at the door.
 
-ghost use Rattle.std.specs.Prelude.{◌≡◌, ◌==◌, ◌||◌, IfOk, bytes_eq, codes};
+ghost use Rattle.std.specs.Prelude.{◌≡◌, IfOk};
 ghost use Rattle.doc_server_status.specs.Door.{is_look, is_read, metrics_said, replied_to, said_at, said_to, status_of, status_reply};
 ghost use Rattle.doc_server_status.specs.RequestLines.{asked_in, line_of};
 
 use crate::counters::Counters;
 use crate::head::{Shown, reason};
 use crate::metrics::push_metrics;
+use crate::record::said_record;
 use crate::request_line::{RequestLine, read};
+use crate::target::{is_health, is_metrics, is_place, wanted_at};
 use doc_page_parts::bytes::Bytes;
 use doc_page_parts::failure::Memory;
 use doc_page_parts::heap::{Heap, String};
@@ -52,18 +54,10 @@ fn reply_to(heap: Heap, asked: RequestLine<'_>, counters: &Counters) -> Result<B
 fn said_to(heap: Heap, asked: RequestLine<'_>, counters: &Counters) -> Result<Shown, Memory>
     ensures { IfOk result (λ shown. shown ≡ said_to (line_of asked.entry) counters.now) }
 {
-    let said = said_at(heap, asked.target, counters)?;
-    if stays(asked.method, said.code) {
-        return Ok(said);
+    if is_read(asked.method) || !is_place(asked.target) {
+        return said_at(heap, asked.target, counters);
     }
     status(heap, 405)
-}
-
-/// Whether what has this code is said to the method.
-fn stays(method: &[u8], code: u16) -> bool
-    ensures { result ≡ (is_read method.now || (code == 404)) }
-{
-    is_read(method) || code == 404
 }
 
 fn is_read(method: &[u8]) -> bool
@@ -72,24 +66,21 @@ fn is_read(method: &[u8]) -> bool
     method == b"GET".as_slice() || method == b"HEAD".as_slice()
 }
 
-fn is_metrics(target: &[u8]) -> bool
-    ensures { result ≡ bytes_eq target.now (codes "/metrics") }
-{
-    target == b"/metrics".as_slice()
-}
-
 /// What is said at a target.
 #[tactic(auto, unfolding(crate::specs::Door::said_at))]
 fn said_at(heap: Heap, target: &[u8], counters: &Counters) -> Result<Shown, Memory>
     ensures { IfOk result (λ shown. shown ≡ said_at target.now counters.now) }
 {
-    if target == b"/health".as_slice() {
+    if is_health(target) {
         return Ok(content(false, Text::copy_of(heap, "ok\n")?));
     }
     if is_metrics(target) {
         return said_metrics(heap, counters);
     }
-    status(heap, 404)
+    match wanted_at(target) {
+        Some(wanted) => said_record(heap, &wanted, &counters.standing),
+        None => status(heap, 404),
+    }
 }
 
 fn said_metrics(heap: Heap, counters: &Counters) -> Result<Shown, Memory>

@@ -79,7 +79,7 @@ fn push_length_line(out: &mut String, len: usize) -> Result<(), Memory>
     Ok(())
 }
 
-/// The reason phrase of 200, 404 or 405, the codes that are said here.
+/// The reason phrase of 200, 404, 405 or 503, the codes that are said here.
 #[tactic(auto, unfolding(crate::specs::Replies::reason_of))]
 pub fn reason(code: u16) -> &'static str
     ensures { result.now ≡ reason_of code }
@@ -87,6 +87,7 @@ pub fn reason(code: u16) -> &'static str
     match code {
         200 => "OK",
         404 => "Not Found",
+        503 => "Service Unavailable",
         _ => "Method Not Allowed",
     }
 }

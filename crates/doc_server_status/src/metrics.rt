@@ -1,7 +1,7 @@
 //! The counters as Prometheus reads them (its text format, version 0.0.4).
 
 ghost use Rattle.std.specs.Prelude.{◌≡◌, ◌++◌, OnOk, decimal, string_bytes};
-ghost use Rattle.doc_server_status.specs.Metrics.{connection_metrics, heading, metric, metrics_text, reload_metric, reply_metrics, requests_metric, sample, standing_metrics, turn_metric};
+ghost use Rattle.doc_server_status.specs.Metrics.{connection_metrics, heading, journal_metrics, metric, metrics_text, reload_metric, reply_metrics, requests_metric, sample, standing_metrics, turn_metric};
 
 use crate::counters::Counters;
 use crate::replies::Replies;
@@ -20,7 +20,7 @@ pub fn push_metrics(out: &mut String, counters: &Counters) -> Result<(), Memory>
     push_replies(out, counters)?;
     push_connections(out, counters)?;
     push_turn(out, counters.turn_micros_most)?;
-    push_standing(out, counters.standing)?;
+    push_standing(out, &counters.standing)?;
     Ok(())
 }
 
@@ -151,9 +151,9 @@ fn push_turn(out: &mut String, micros: u64) -> Result<(), Memory>
 
 /// Writes what stands, and what came of reloads.
 #[tactic(auto, unfolding(crate::specs::Metrics::standing_metrics))]
-fn push_standing(out: &mut String, standing: Standing) -> Result<(), Memory>
+fn push_standing(out: &mut String, standing: &Standing) -> Result<(), Memory>
     ensures { OnOk result
-        (string_bytes out.new ≡ string_bytes out.old ++ standing_metrics standing) }
+        (string_bytes out.new ≡ string_bytes out.old ++ standing_metrics standing.now) }
 {
     push_metric(
         out,
@@ -162,6 +162,17 @@ fn push_standing(out: &mut String, standing: Standing) -> Result<(), Memory>
         "Pages that stand.",
         standing.pages,
     )?;
+    push_journal(out, standing)?;
+    push_reloads(out, standing)?;
+    Ok(())
+}
+
+/// Writes what is known of the journal.
+#[tactic(auto, unfolding(crate::specs::Metrics::journal_metrics))]
+fn push_journal(out: &mut String, standing: &Standing) -> Result<(), Memory>
+    ensures { OnOk result
+        (string_bytes out.new ≡ string_bytes out.old ++ journal_metrics standing.now) }
+{
     push_metric(
         out,
         "gauge",
@@ -169,15 +180,21 @@ fn push_standing(out: &mut String, standing: Standing) -> Result<(), Memory>
         "Bytes of the journal's records.",
         standing.journal_bytes,
     )?;
-    push_reloads(out, standing)?;
+    push_metric(
+        out,
+        "gauge",
+        "docs_record",
+        "Records of the journal in the site.",
+        standing.records(),
+    )?;
     Ok(())
 }
 
 /// Writes what came of reloads, and when one was last done.
 #[tactic(auto, unfolding(crate::specs::Metrics::reload_metric))]
-fn push_reloads(out: &mut String, standing: Standing) -> Result<(), Memory>
+fn push_reloads(out: &mut String, standing: &Standing) -> Result<(), Memory>
     ensures { OnOk result
-        (string_bytes out.new ≡ string_bytes out.old ++ reload_metric standing) }
+        (string_bytes out.new ≡ string_bytes out.old ++ reload_metric standing.now) }
 {
     push_heading(
         out,

@@ -69,7 +69,7 @@ struct Ready {
 #[derive(Drop)]
 struct Told<'a, P> {
     log: Option<AccessLog<'a, P>>,
-    standing: &'a Cell<Standing>,
+    shared: &'a Shared,
 }
 
 /// Where the system tells what standard input is.
@@ -122,7 +122,7 @@ fn listen_configured<
     };
     let told = Told {
         log: log_of(rt, form, &shared.names),
-        standing: &shared.standing,
+        shared: &shared,
     };
     match command.follow {
         None => {
@@ -242,8 +242,9 @@ fn serve_hub<
         written: command.written,
         address: command.address,
         hears_input: is_pipe(rt),
+        shared: told.shared,
     };
-    let monitors = monitors_of(rt, command.status, told.standing)?;
+    let monitors = monitors_of(rt, command.status, &told.shared.standing)?;
     let watch = Watching::of(rt, told.log, monitors);
     let ended = listen_on(rt, heap, &host, hub, bounds, command.journal, watch, source)?;
     ended_status(&ended)

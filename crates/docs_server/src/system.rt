@@ -3,12 +3,17 @@
 ghost use Rattle.std.specs.Prelude.{◌≡◌, false, IfOk};
 ghost use Rattle.docs_server.specs.NamedDevices.{has_failed};
 
+use crate::growing_file::GrowingFile;
 use crate::listen_fault::ListenFault;
 use crate::named_device::NamedDevice;
 use crate::serving::tell_address;
+use crate::shared::Shared;
 use crate::torn::TornFile;
+use doc_page_parts::bytes::Bytes;
 use doc_page_parts::heap::Heap;
 use doc_server_compacting::reserve::make_reserve;
+use doc_server_follow::growing::Growing;
+use doc_server_follow::growing_fault::GrowingFault;
 use doc_server_journal::device::Device;
 use doc_server_journal::file_device::FileDevice;
 use doc_server_journal::file_fault::FileFault;
@@ -16,7 +21,7 @@ use doc_server_journal::journal::Journal;
 use doc_server_journal::names::Replacement;
 use doc_server_journal::random::new_identity;
 use doc_server_journal::torn::KeepTorn;
-use doc_server_journal_records::header::Identity;
+use doc_server_journal_records::header::{HEADER_LEN, Identity};
 use doc_server_serving::hosting::host::Host;
 use doc_server_serving::net::mio_network::MioNetwork;
 use doc_server_streams::fault::Fault;
@@ -36,6 +41,8 @@ pub struct System<'a, P> {
     pub address: SocketAddr,
     /// Whether standard input is heard: its end ends the server.
     pub hears_input: bool,
+    /// Where the door for monitors finds what stands.
+    pub shared: &'a Shared,
 }
 
 impl<'a, P: Clock + Eprint + Files<File = File> + Net + Print> Host for System<'a, P> {
@@ -69,6 +76,12 @@ impl<'a, P: Clock + Eprint + Files<File = File> + Net + Print> Host for System<'
         torn.keep(records, bytes);
     }
 
+    fn tell_journal(&self, name: &str, records: usize) {
+        if let Ok(header) = header_of(self.rt, self.heap, name) {
+            self.shared.tell_journal(header.get(), records);
+        }
+    }
+
     fn bind(&self, heap: Heap) -> Result<MioNetwork, ListenFault> {
         match MioNetwork::bind(self.rt, heap, self.address, self.hears_input) {
             Ok(net) => Ok(net),
@@ -80,6 +93,12 @@ impl<'a, P: Clock + Eprint + Files<File = File> + Net + Print> Host for System<'
         tell_address(&mut WriteTo::new(io::writer(self.rt)), self.written)?;
         Ok(())
     }
+}
+
+/// The header of the journal of this name.
+fn header_of<P: Files<File = File>>(rt: &P, heap: Heap, name: &str) -> Result<Bytes, GrowingFault> {
+    let mut file = GrowingFile::open(rt, name)?;
+    file.read_at(heap, 0, HEADER_LEN)
 }
 
 /// Makes a journal of this name, and tells it. It gets the name once it has its header, so that no crash leaves one without, nor

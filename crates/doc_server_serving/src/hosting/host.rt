@@ -30,6 +30,9 @@ pub trait Host {
     /// Keeps what stood torn in that file behind so many records, before it is zeroed.
     fn keep_torn(&self, name: &str, records: usize, bytes: &[u8]);
 
+    /// The journal of that file is open, and the edits of its records, which are so many, are made.
+    fn tell_journal(&self, name: &str, records: usize);
+
     /// A network that listens at the address, on which nothing has passed.
     fn bind(&self, heap: Heap) -> Result<Self::Network, Self::Fault>
         ensures { IfOk result (λ net. (k : ℕ) → IsUnused (Self.Network.came net k)

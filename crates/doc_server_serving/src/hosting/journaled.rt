@@ -15,7 +15,6 @@ use doc_page_parts::heap::Heap;
 use doc_server_journal::device::Device;
 use doc_server_journal::journal::Journal;
 use doc_server_journal::opening::Opened;
-use doc_server_journal::torn::KeepTorn;
 use doc_server_network::saved_hub::SavedHub;
 use doc_server_restore::restore::restore;
 
@@ -54,28 +53,31 @@ fn journaled_hub<H: Host, R: Renderer + Drop>(
         Err(fault) => return Err(HostingFault::Host(fault)),
     };
     let mut hub = hub;
-    let mut torn = TornOnHost { host, name };
-    let mut journal = restored_journal(heap, device, &mut torn, &mut hub)?;
+    let mut journal = restored_journal(heap, host, name, device, &mut hub)?;
     make_room(&mut journal, &mut hub)?;
     Ok(SavedHub::over(heap, hub, journal))
 }
 
-/// The journal of a file, opened, and its edits made on a hub's pages, in their order.
-fn restored_journal<D: Device + Drop, R: Renderer + Drop, K: KeepTorn, F: Drop>(
+/// The journal of a name, whose file is this one: opened, and its edits made on a hub's pages, in their order.
+fn restored_journal<H: Host, R: Renderer + Drop>(
     heap: Heap,
-    device: D,
-    keeper: &mut K,
+    host: &H,
+    name: &str,
+    device: H::Device,
     hub: &mut Hub<R>,
-) -> Result<Journal<D>, HostingFault<F>>
-    requires usable { D.failed device ≡ false }
-    requires fresh { IsFresh (D.stale device) }
-    ensures restored { IfOk result (λ journal. (is : IsRestoredFrom (D.seen device) hub.old.1 hub.new.1)
-        × IsOpen D.seen D.may_leave D.failed D.stale journal is.texts) }
+) -> Result<Journal<H::Device>, HostingFault<H::Fault>>
+    requires usable { H.Device.failed device ≡ false }
+    requires fresh { IsFresh (H.Device.stale device) }
+    ensures restored { IfOk result (λ journal. (is : IsRestoredFrom (H.Device.seen device)
+        hub.old.1 hub.new.1) × IsOpen H.Device.seen H.Device.may_leave H.Device.failed
+        H.Device.stale journal is.texts) }
     ensures same { R.page hub.new.0 ≡ R.page hub.old.0 }
 {
-    match Journal::open(heap, device, usize::MAX, keeper) {
+    let mut torn = TornOnHost { host, name };
+    match Journal::open(heap, device, usize::MAX, &mut torn) {
         Ok(Opened { journal, texts }) => {
             restore(heap, hub, texts.get())?;
+            host.tell_journal(name, texts.get().len());
             Ok(journal)
         }
         Err(refused) => Err(HostingFault::Journal(refused.fault)),
