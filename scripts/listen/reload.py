@@ -1,4 +1,4 @@
-"""Readers and pages read anew while `listen` runs: a line `reload` on its standard input, and what comes of it. Beside each change stands a server
+"""Readers, pages and media read anew while `listen` runs: a line `reload` on its standard input, and what comes of it. Beside each change stands a server
 that is started anew on the same files: the replies of all readers are alike. What is refused leaves all as it was, and is told.
 
     python3 scripts/listen/reload.py PROGRAM
@@ -18,9 +18,9 @@ TARGETS = [f"/page/{name}.md" for name in (*GROUPS, "all", "none")]
 TARGETS += ["/search?q=red", "/pages", "/links?path=red.md", "/backlinks?path=red.md", "/broken", "/"]
 
 
-def done(readers, put=0, removed=0, record=0):
+def done(readers, put=0, removed=0, record=0, media=False):
     """What is printed of a reload that is made."""
-    return f"reload: {readers} readers, {put} pages put, {removed} removed (record {record})\n"
+    return f"reload: {readers} readers, {put} pages put, {removed} removed{', other media' * media} (record {record})\n"
 
 
 def row(token, groups=(), owner=False, name="", hashed=False):
@@ -125,6 +125,46 @@ def pages():
         done(1, 1), "blue.md", b"Blue")
     now("all but one", lambda: put("site.toml", ann + '[[page]]\npath = "all.md"\ngroups = ["red"]\ntext = "All"\n'), done(1, 1, 6), "all.md", b"All")
     site.ends("pages")
+
+
+def media():
+    """Pictures come, change and go in one event, with who may see them; who reads on a standing connection has them from then on."""
+    ann, ben = row(TOKENS[0], ["red"]), row(TOKENS[1], ["blue"])
+    put("drawn/one.md", "![a](a.png)")
+    folder = '[[folder]]\npath = "drawn"\nprefix = "drawn"\ngroups = ["red"]\nmedia = true\n'
+    site = Reloaded(ann + ben + row(TOKENS[2], owner=True) + folder)
+    clients = [Client(site.server.port, it) for it in TOKENS[:3]]
+
+    def now(name, change, told, wanted, text=None):
+        change()
+        said = site.reload(text)
+        scene.check(f"{name}: told", said == told, said)
+        found = [it[2] if it[0] == 200 else it[0] for it in (client.ask("/page/drawn/a.png") for client in clients)]
+        scene.check(name, found == wanted, found)
+
+    now("a picture", lambda: put("drawn/a.png", b"one"), done(3, media=True), [b"one", 404, b"one"])
+    shown = clients[0].ask("/page/drawn/one.md")[2]
+    scene.check("a page shows it", b'<img src="a.png" alt="a" />' in shown, shown)
+    now("another one of its name", lambda: put("drawn/a.png", b"two"), done(3, media=True), [b"two", 404, b"two"])
+    now("the same", lambda: None, "reload: nothing has changed\n", [b"two", 404, b"two"])
+    text = ann + ben + row(TOKENS[2], owner=True) + folder.replace("red", "blue")
+    now("other groups", lambda: None, done(3, 1, media=True), [404, b"two", b"two"], text)
+    now("no media", lambda: None, done(3, media=True), [404, 404, 404], text.replace("media = true\n", ""))
+    now("media again", lambda: None, done(3, media=True), [404, b"two", b"two"], text)
+    now("it goes, a page comes", lambda: (os.remove("drawn/a.png"), put("drawn/two.md", "Two")), done(3, 1, media=True), [404, 404, 404])
+    now("no media to be", lambda: None, done(3, media=True), [404, 404, 404], text.replace("media = true\n", ""))
+    code = clients[2].ask("/page/drawn/a.png", "PUT", b"A page")[0]
+    scene.check("a page has its path", code == 201, code)
+    put("drawn/a.png", b"three")
+    put("drawn/two.md", "Other")
+    told = site.reload(text)
+    scene.check("a picture for its path: told", told == "reload refused: a medium has the path of a page that stands\n", told)
+    found = [clients[2].ask(f"/page/drawn/{it}")[2] for it in ("a.png", "two.md")]
+    scene.check("all is as before", b"A page" in found[0] and b"Two" in found[1], found)
+    code = clients[2].ask("/page/drawn/a.png", "DELETE")[0]
+    scene.check("the page goes", code in (200, 204), code)
+    now("and a picture comes", lambda: None, done(3, 1, media=True), [404, b"three", b"three"])
+    site.ends("media")
 
 
 def refused():
@@ -273,7 +313,7 @@ def busy(times=200):
 
 
 def main():
-    for it in (readers, pages, refused, lines, alike, with_edits, log, busy):
+    for it in (readers, pages, media, refused, lines, alike, with_edits, log, busy):
         it()
 
 

@@ -1,5 +1,5 @@
-"""Pages read anew while `listen` runs, beside edits of its owner: behind each of many random changes of rows, files, folders and edits the
-replies of four readers are those of a server that is started anew on a copy of the same files and of the journal. Then how long others wait
+"""Pages and media read anew while `listen` runs, beside edits of its owner: behind each of many random changes of rows, files, pictures and
+edits the replies of four readers are those of a server that is started anew on a copy of the same files and of the journal. Then how long others wait
 beside a reload of many files.
 
     python3 scripts/listen/reload_pages.py PROGRAM [CHANGES [FILES]]
@@ -15,7 +15,8 @@ GROUPS = ("red", "green")
 READERS = {"tok-own": ("owner = true", []), "tok-red": ("", ["red"]), "tok-green": ("", ["green"]), "tok-none": ("", [])}
 NAMES = [f"{folder}{name}.md" for folder in ("", "in/", "in/deep/") for name in ("a", "b", "c", "index")]
 PATHS = NAMES + [f"docs/{it}" for it in NAMES]
-TARGETS = [f"/page/{it}" for it in PATHS] + ["/pages", "/search?q=word", "/broken"] + [f"/backlinks?path={it}" for it in PATHS[::5]]
+PICTURES = ["pic.png", "in/pic.png", "in/deep/table.csv"]
+TARGETS = [f"/page/{it}" for it in PATHS] + [f"/page/docs/{it}" for it in PICTURES] + ["/pages", "/search?q=word", "/broken"] + [f"/backlinks?path={it}" for it in PATHS[::5]]
 
 
 def rows():
@@ -25,21 +26,22 @@ def rows():
 
 
 class Files:
-    """A configuration with rows, and a folder of files, both of which change."""
+    """A configuration with rows, and a folder of pages and pictures, all of which change."""
 
     def __init__(self, chance):
-        self.chance, self.rows = chance, {}
+        self.chance, self.rows, self.media = chance, {}, True
         shutil.rmtree("docs", ignore_errors=True)
         os.mkdir("docs")
         self.write()
 
     def text(self):
         links = " ".join(f"[{it}](/page/{it})" for it in self.chance.sample(PATHS, 3))
-        return f"# Word {self.chance.randint(0, 99)}\n\n{links} word{self.chance.randint(0, 9)}\n"
+        picture = self.chance.choice(PICTURES)
+        return f"# Word {self.chance.randint(0, 99)}\n\n{links} ![it](/page/docs/{picture}) word{self.chance.randint(0, 9)}\n"
 
     def change(self):
-        """One change of a row, or of a file."""
-        name, kind = self.chance.choice(NAMES), self.chance.randint(0, 5)
+        """One change of a row, of a file or of a picture."""
+        name, picture, kind = self.chance.choice(NAMES), f"docs/{self.chance.choice(PICTURES)}", self.chance.randint(0, 8)
         file = f"docs/{name}"
         if kind == 0:
             self.rows.pop(name, None)
@@ -47,6 +49,12 @@ class Files:
             self.rows[name] = (self.chance.sample(GROUPS, self.chance.randint(0, 2)), self.text())
         elif kind == 3 and os.path.exists(file):
             os.remove(file)
+        elif kind == 6:
+            put(picture, f"bytes {self.chance.randint(0, 3)}")
+        elif kind == 7 and os.path.exists(picture):
+            os.remove(picture)
+        elif kind == 8:
+            self.media = self.chance.random() < 0.8
         else:
             put(file.replace("index", self.chance.choice(("index", "README"))), self.text())
             # a README is its folder's index where none stands there
@@ -55,7 +63,8 @@ class Files:
     def write(self):
         pages = "".join(f'[[page]]\npath = "{path}"\ngroups = {groups}\ntext = """{text}"""\n'.replace("'", '"')
                         for path, (groups, text) in self.rows.items())
-        put("site.toml", rows() + pages + '[[folder]]\npath = "docs"\nprefix = "docs"\nreadme = true\ngroups = ["green"]\n')
+        folder = '[[folder]]\npath = "docs"\nprefix = "docs"\nreadme = true\ngroups = ["green"]\n'
+        put("site.toml", rows() + pages + folder + "media = true\n" * self.media)
 
 
 def replies(port):

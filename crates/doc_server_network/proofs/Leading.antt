@@ -1,17 +1,16 @@
 -- What keeps a reload under way, and what it comes to where all of its edits are made.
 use Rattle.std.proofs.Common.{◌≡◌, ◌≤◌, ◌+◌, ◌*◌, ◌++◌, ℕ, List, [], ◌∷◌, refl, ap, sym, subst, ◌∙◌}
-use Rattle.std.specs.Prelude.{Bool, Contains, IfSome, Ok, Option, Some, None, option_map, Result}
+use Rattle.std.specs.Prelude.{Bool, Contains, IfSome, Option, Some, None, option_map, Result}
 use Rattle.std.specs.FinMap as map
 use Rattle.std.proofs.lemmas.List.Elements.{All-weaker, Contains-append_left, Contains-append_right}
 use Rattle.doc_hub.proofs.MediaLaws.{media_stand_apart}
 use Rattle.doc_hub.specs.Runs.{Happened, Happens}
-use Rattle.doc_hub.specs.Worlds.{IsApart, World, store_of, with_store}
+use Rattle.doc_hub.specs.Worlds.{IsApart, World, store_of, with_media, with_store}
 use Rattle.doc_hub_answers.specs.Replies.{Renders}
 use Rattle.doc_hub_events.specs.Events.{disconnect_on, push_on}
 use Rattle.doc_hub_events.specs.declared.event.ConnId.{ConnId}
 use Rattle.doc_hub_events.specs.declared.event.Event.{Event}
 use Rattle.doc_hub_events.specs.declared.event.Event.TheVariants as events
-use Rattle.doc_hub_events.specs.declared.event.ReaderEdit.TheVariants as reader_edits
 use Rattle.doc_hub_events.specs.declared.refusal.ConnectError.{ConnectError}
 use Rattle.doc_hub_events.specs.declared.refusal.PushError.{PushError}
 use Rattle.doc_media.specs.Media.{Media}
@@ -26,13 +25,12 @@ use Rattle.doc_server_restore.specs.Restores.{all_made, made, unstamped}
 use Rattle.doc_server_settling.specs.Reserves.{removal_most}
 use Rattle.doc_store.specs.Store.{StoreState, page_limit}
 use Rattle.doc_store.specs.declared.site_edit.SiteEdit.{SiteEdit}
-use Rattle.doc_store_readers.specs.Readers.{ReaderTable}
 use Rattle.doc_store_readers.specs.Sites.{Site}
-use Rattle.doc_server_network.proofs.QuietEvents.{connects_same, disconnects_same, pushes_same, sets_readers}
+use Rattle.doc_server_network.proofs.QuietEvents.{connects_same, disconnects_same, pushes_same}
 use Rattle.doc_server_network.proofs.Settling.{begun}
 use Rattle.doc_server_network.specs.Crashes.{OfBoth}
 use Rattle.doc_server_network.specs.Reloads.{AreTexts, IsOfStart, IsOnTheWay, IsReloading, IsRestarted, IsUnderWay, Reloads}
-use Rattle.doc_server_network.specs.Reloads.{ReloadsAreRestored, RemovalsFit, pages_alone}
+use Rattle.doc_server_network.specs.Reloads.{ReloadsAreRestored, RemovalsFit, beside, pages_alone}
 use Rattle.doc_server_network.specs.Saved.{HasAll, IsAllSaved, IsReady, IsSavedIn, IsSettled, IsUnedited, no_lines}
 use Rattle.doc_server_network.specs.declared.lead.Lead.{Lead}
 use Rattle.doc_server_network.specs.declared.saved_hub.SavedHub.{SavedHub}
@@ -79,6 +77,7 @@ module _ (render : Renders) (part : List SiteEdit) (w v : World) (leads : LeadsB
   is_edit h (events.Site edit) is one = (edit, is)
   is_edit h (events.Reader edit) is one = absurd one
   is_edit h (events.TakePuts takes) is one = absurd one
+  is_edit h (events.SetMedia media) is one = absurd one
 
   pub rest_stays : SiteEditsLeaveTheRest → v ≡ with_store w (store_of v)
   rest_stays law =
@@ -220,15 +219,6 @@ module _ {D R : Type 0} (seen : D → Option (List ℕ)) (may_leave : D → List
         → IsUnderWay seen may_leave failed stale config begin lead done next
     unedited_stays next rests = stays_on next rests.site.site rests.site.media rests.site.puts rests.journal rests.unsaved
 
-    -- the readers are set, and nothing else
-    pub readers_stay : (render : Renders) (readers : ReaderTable) (next : SavedHub D R)
-        → Happens render saved.hub.1 (events.Reader (reader_edits.All readers)) next.hub.1 (Ok tt)
-        → next.journal ≡ saved.journal → next.unsaved ≡ saved.unsaved
-        → IsUnderWay seen may_leave failed stale config begin lead done next
-    readers_stay render readers next happens journal unsaved =
-        let quiet = sets_readers render saved.hub.1 next.hub.1 readers happens in
-        stays_on next quiet.same.site quiet.same.media quiet.same.puts journal unsaved
-
     -- ---- each edit is one on the way
 
     pub on_the_way : (edit : SiteEdit) → Contains lead.edits edit → IsOnTheWay config edit
@@ -248,6 +238,7 @@ module _ {D R : Type 0} (seen : D → Option (List ℕ)) (may_leave : D → List
       is_reloading (events.Site edit) one = on_the_way edit (some edit one)
       is_reloading (events.Reader edit) one = absurd one
       is_reloading (events.TakePuts takes) one = absurd one
+      is_reloading (events.SetMedia media) one = absurd one
 
       -- a run of some of the edits is one of a reload
       pub reloads : (render : Renders) (w v : World) → LeadsByEdits render part w v → Reloads config render w v
@@ -308,3 +299,11 @@ module _ {D R : Type 0} (seen : D → Option (List ℕ)) (may_leave : D → List
         settled_in laws saved.journal saved.unsaved of_calls is.are_texts is.fits is.fresh apart,
         saved_all,
       )
+
+  -- one that was found beside media is under way once these are set, and whatever readers
+  pub set_is_under_way : (config : StoreState) (begin : World) (lead : Lead) (media : Media) (saved next : SavedHub D R)
+      → IsUnderWay seen may_leave failed stale config (with_media begin media) lead [] (beside media saved)
+      → next.hub.1.site ≡ saved.hub.1.site → next.hub.1.media ≡ media → next.hub.1.puts ≡ saved.hub.1.puts → next.journal ≡ saved.journal
+      → next.unsaved ≡ saved.unsaved → IsUnderWay seen may_leave failed stale config (with_media begin media) lead [] next
+  set_is_under_way config begin lead media saved next is site set puts journal unsaved =
+      stays_on config (with_media begin media) lead [] (beside media saved) is next site set puts journal unsaved

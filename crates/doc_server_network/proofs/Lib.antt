@@ -3,7 +3,7 @@ mod Following
 pub mod Leading
 pub mod MemorySteps
 pub mod Passing
-mod QuietEvents
+pub mod QuietEvents
 mod Records
 mod Reloads
 mod Rooms

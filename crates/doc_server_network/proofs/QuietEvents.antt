@@ -1,20 +1,24 @@
 -- Events that leave the site, its media and its puts.
-use Rattle.std.proofs.Common.{◌≡◌, ℕ, ◌+◌, List, Bool, true, false, cond, refl, sym, subst}
-use Rattle.std.specs.Prelude.{Result, Ok, Err, nat_lt}
+use Rattle.std.proofs.Common.{◌≡◌, ℕ, ◌+◌, List, [], ◌∷◌, Bool, true, false, ap, cond, refl, sym, subst}
+use Rattle.std.specs.Prelude.{Result, Ok, Err, nat_lt, if◌then◌else◌}
 use Rattle.std.specs.FinMap as map
-use Rattle.doc_page_parts.specs.Refusals.{Gives}
+use Rattle.doc_page_parts.specs.Refusals.{Gives, IsAnswer}
 use Rattle.doc_hub_answers.specs.Replies.{Renders}
-use Rattle.doc_hub_events.specs.Events.{disconnect_on, push_on}
+use Rattle.doc_hub_events.specs.Events.{disconnect_on, push_on, setting_media}
 use Rattle.doc_hub_events.specs.declared.event.ConnId.{ConnId}
 use Rattle.doc_hub_events.specs.declared.event.Event.TheVariants as events
 use Rattle.doc_hub_events.specs.declared.refusal.ConnectError.{ConnectError}
 use Rattle.doc_hub_events.specs.declared.refusal.ConnectError.TheVariants as connect_errors
+use Rattle.doc_hub_events.specs.declared.refusal.MediaSetError.{MediaSetError}
+use Rattle.doc_hub_events.specs.declared.refusal.MediaSetError.TheVariants as media_errors
 use Rattle.doc_hub_events.specs.declared.refusal.PushError.{PushError}
 use Rattle.doc_hub_events.specs.declared.refusal.PushError.TheVariants as push_errors
 use Rattle.doc_hub_events.specs.declared.event.ReaderEdit.TheVariants as reader_edits
 use Rattle.doc_hub.specs.Connections.{new_connection}
-use Rattle.doc_hub.specs.Runs.{Happens}
-use Rattle.doc_hub.specs.Worlds.{World, connected, last_id, world_pushed}
+use Rattle.doc_hub.specs.Runs.{Happened, Happens, first, nothing}
+use Rattle.doc_hub.specs.Worlds.{IsApart, World, are_apart, connected, last_id, with_media, world_pushed}
+use Rattle.doc_hub.proofs.MediaLaws.{media_stand_apart}
+use Rattle.doc_media.specs.Media.{Media}
 use Rattle.doc_store_readers.specs.Readers.{ReaderTable}
 use Rattle.doc_store_readers.specs.declared.readers.ReaderError.{ReaderError}
 use Rattle.doc_server_listen.specs.Sites.{IsSameSite}
@@ -59,6 +63,9 @@ connected_same w = by (nat_lt w.given last_id)
     by true = record { same = record { site = refl; media = refl; puts = refl; readers = refl }; taking = refl }
     by false = as_before w
 
+abbrev media_set_if : World → Media → Bool → World × Result (Unit {0}) MediaSetError
+media_set_if w media apart = if apart then (with_media w media, Ok tt) else (w, Err media_errors.Taken)
+
 module _ (render : Renders) (w v : World) where
   connects_aside : (said : Result ConnId ConnectError) → Happens render w events.Connect v said → IsAside w v
   connects_aside said happens = of_given connect_errors.Memory (connected w) w v said happens (connected_same w)
@@ -101,6 +108,51 @@ module _ (render : Renders) (w v : World) where
 
   pub readers_give : (readers : ReaderTable) → Happens render w (events.Reader (reader_edits.All readers)) v (Ok tt) → v.given ≡ w.given
   readers_give readers happens = subst (λ (g : World × Result (Unit {0}) ReaderError). g.0.given ≡ w.given) happens refl
+
+  -- the media are set, or nothing happens
+  sets_or_not : (media : Media) (said : Result (Unit {0}) MediaSetError) → Happens render w (events.SetMedia media) v said
+      → v ≡ record w { media = v.media }
+  sets_or_not media (Ok fine) happens =
+      subst (λ (p : World × Result (Unit {0}) MediaSetError). p.0 ≡ record w { media = p.0.media }) happens (by (are_apart w.site media))
+    where
+      by : (t : Bool) → (media_set_if w media t).0 ≡ record w { media = (media_set_if w media t).0.media }
+      by true = refl
+      by false = refl
+  sets_or_not media (Err e) happens = subst (λ (x : World). x ≡ record w { media = x.media }) (sym happens.1) refl
+
+  pub media_give : (media : Media) (said : Result (Unit {0}) MediaSetError) → Happens render w (events.SetMedia media) v said
+      → v.given ≡ w.given
+  media_give media said happens = ap (λ (x : World). x.given) (sets_or_not media said happens)
+
+  pub sets_media : (media : Media) → Happens render w (events.SetMedia media) v (Ok tt) → v ≡ with_media w media
+  sets_media media happens = by (are_apart w.site media) happens
+    where
+      by : (t : Bool) → ◌≡◌ {A = World × Result (Unit {0}) MediaSetError} (media_set_if w media t) (v, Ok tt) → v ≡ with_media w media
+      by true is = sym (ap (λ (p : World × Result (Unit {0}) MediaSetError). p.0) is)
+      by false is = absurd (no_ok (ap (λ (p : World × Result (Unit {0}) MediaSetError). p.1) is))
+        where
+          no_ok : ◌≡◌ {A = Result (Unit {0}) MediaSetError} (Err media_errors.Taken) (Ok tt) → ⊥
+          no_ok e = cc
+
+  -- then they are apart from the site, where the media of before were
+  pub sets_apart : (media : Media) → Happens render w (events.SetMedia media) v (Ok tt) → IsApart w.site w.media → IsApart w.site media
+  sets_apart media happens apart =
+      let h : Happened = record { world = w; event = events.SetMedia media; outcome = setting_media (Ok tt) } in
+      let runs = first w v v (events.SetMedia media) (setting_media (Ok tt)) [] (Ok tt, happens, refl) (nothing v) in
+      subst (λ (x : World). IsApart x.site x.media) (sets_media media happens) (media_stand_apart.apart render w v (h ∷ []) apart runs)
+
+  pub taken_media : (media : Media) → Happens render w (events.SetMedia media) v (Err media_errors.Taken) → are_apart w.site media ≡ false
+  taken_media media happens = by (are_apart w.site media) happens.0
+    where
+      by : (t : Bool) → IsAnswer media_errors.Memory (media_set_if w media t).1 (Err media_errors.Taken) → t ≡ false
+      by true is = absurd (unlike is)
+        where
+          unlike : media_errors.Taken ≡ media_errors.Memory → ⊥
+          unlike e = cc
+      by false is = refl
+
+  pub refuses_media : (media : Media) (e : MediaSetError) → Happens render w (events.SetMedia media) v (Err e) → IsQuiet w v
+  refuses_media media e happens = quiet w v (subst (IsAside w) (sym happens.1) (as_before w))
 
   pub takes : (takes : Bool) → Happens render w (events.TakePuts takes) v tt → IsSameStore w v
   takes puts happens = subst (IsSameStore w) (sym happens) (record { site = refl; media = refl; puts = refl })

@@ -4,7 +4,6 @@ use Rattle.std.proofs.Common.{inl, inr}
 use Rattle.std.specs.Prelude.{IfSome, IsErrAnd, Result, Ok, Err, Option, Some, None, nat_le, option_map, if◌then◌else◌}
 use Rattle.std.proofs.lemmas.Bool.Decides.{nat_tests}
 use Rattle.doc_hub.specs.Worlds.{World}
-use Rattle.doc_media.specs.Media.{Media}
 use Rattle.doc_server_journal.proofs.HoldLemmas.{open_reads}
 use Rattle.doc_server_journal.proofs.Moments.{if_known, known, weaker}
 use Rattle.doc_server_journal.specs.Devices.{LeavesOnly}
@@ -13,7 +12,6 @@ use Rattle.doc_server_journal.specs.declared.journal.Journal.{Journal}
 use Rattle.doc_server_listen.specs.Counting.{count_in}
 use Rattle.doc_server_listen.specs.Edits.{Kept}
 use Rattle.doc_server_reload.specs.Texts.{moved_to}
-use Rattle.doc_server_restore.specs.Restores.{restored, unstamped}
 use Rattle.doc_store.specs.Store.{StoreState, page_limit, put_limit, stamp_after}
 use Rattle.doc_server_journal_records.specs.Records.{text_limit}
 use Rattle.doc_server_settling.specs.Reserves.{removal_most}
@@ -21,7 +19,7 @@ use Rattle.doc_server_network.proofs.Rooms.{first_lines}
 use Rattle.doc_server_network.proofs.Settling.{within}
 use Rattle.doc_server_network.proofs.Texts.{some_is}
 use Rattle.doc_server_network.specs.Crashes.{CrashesLeave, OfBoth, Restores}
-use Rattle.doc_server_network.specs.Reloads.{AreTexts, IsJustRead, IsOfStart}
+use Rattle.doc_server_network.specs.Reloads.{AreTexts, IsJustRead}
 use Rattle.doc_server_network.specs.Reloads.{IfCannotWrite, IfRefused, IsRefusedFor, IsStoppedBy, IsUnread, UnlessEnds, is_counted}
 use Rattle.doc_server_network.specs.declared.lead.Lead.{Lead}
 use Rattle.doc_server_network.specs.declared.reload_fault.Refusal.{Refusal}
@@ -172,11 +170,6 @@ module _ {D : Type 0} (seen : D → Option (List ℕ)) (may_leave : D → List �
 
 -- ---- what came of it
 
-pub starts : (config : StoreState) (media other : Media) (texts : List (List ℕ)) (again : StoreState) → media ≡ other
-    → restored media (unstamped config) texts ≡ Ok (unstamped again) → IsOfStart config other texts again
-starts config media other texts again same is =
-    record { gives = subst (λ m. restored m (unstamped config) texts ≡ Ok (unstamped again)) same is }
-
 pub all_read : {D : Type 0} (o n : Option (Journal D)) (unsaved : Kept) → IsJustRead o n → HasAll o unsaved → HasAll n unsaved
 all_read None None unsaved same all = tt
 all_read None (Some j) unsaved same all = absurd same
@@ -196,6 +189,7 @@ module _ {D : Type 0} (seen : D → Option (List ℕ)) (may_leave : D → List �
   unread config w journal refusals.Other is = inl (refl, is)
   unread config w journal (refusals.Record fault) is = absurd is
   unread config w journal refusals.Full is = absurd is
+  unread config w journal refusals.Taken is = absurd is
   unread config w journal refusals.Memory is = tt
 
   pub stopped : (config : StoreState) (w : World) (journal : Option (Journal D)) (texts : List (List ℕ)) (refusal : Refusal)
@@ -205,6 +199,7 @@ module _ {D : Type 0} (seen : D → Option (List ℕ)) (may_leave : D → List �
   stopped config w journal texts refusals.Other are is = inr (texts, are, is)
   stopped config w journal texts (refusals.Record fault) are is = inr (texts, are, is)
   stopped config w journal texts refusals.Full are is = inr (texts, are, is)
+  stopped config w journal texts refusals.Taken are is = absurd is
   stopped config w journal texts refusals.Memory are is = tt
 
 -- a fault that is handed on

@@ -1,6 +1,6 @@
 -- What calls on a hub leave saved.
 use Rattle.std.proofs.Common.{◌≡◌, ◌≤◌, ◌+◌, ◌-◌, ◌*◌, ℕ, List, [], ◌∷◌, ◌++◌, Bool, true, refl, ap, sym, subst, ◌∙◌, append-nil, length}
-use Rattle.std.specs.Prelude.{All, IfSome, Option, Some, None, option_map, option_to_list, Result, Ok}
+use Rattle.std.specs.Prelude.{All, IfSome, OnErr, Option, Some, None, option_map, option_to_list, Result, Ok, Err}
 use Rattle.std.specs.FinMap as map
 use Rattle.std.proofs.lemmas.Grind.{flat_map-append}
 use Rattle.std.proofs.lemmas.List.Elements.{All-cons, All-nil}
@@ -79,6 +79,11 @@ module _ {D : Type 0} (seen : D → Option (List ℕ)) (may_leave : D → List �
       → IfSome journal (λ j. Saved j unsaved w) → IfSome journal (λ j. Saved j unsaved v)
   stays None unsaved w v quiet is = tt
   stays (Some journal) unsaved w v quiet is = saved_too journal unsaved w v quiet is
+
+-- where it is refused
+pub on_err : {X E : Type 0} (said : Result X E) (P : Type 0) → ((e : E) → said ≡ Err e → P) → OnErr said P
+on_err (Ok x) P so = tt
+on_err (Err e) P so = so e refl
 
 -- ---- a step
 

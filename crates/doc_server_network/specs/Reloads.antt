@@ -4,10 +4,12 @@ use Rattle.std.specs.Prelude.{IfSome, Result, Ok, Err}
 use Rattle.std.specs.FinMap as map
 use Rattle.std.specs.List.{filter}
 use Rattle.doc_hub.specs.Runs.{Happened, Runs}
-use Rattle.doc_hub.specs.Worlds.{IsApart, World, store_of}
+use Rattle.doc_hub.specs.Worlds.{IsApart, World, are_apart, store_of, with_media}
 use Rattle.doc_hub_answers.specs.Replies.{Renders}
 use Rattle.doc_hub_events.specs.declared.event.Event.{Event}
 use Rattle.doc_hub_events.specs.declared.event.Event.TheVariants as events
+use Rattle.doc_hub_events.specs.declared.refusal.MediaSetError.{MediaSetError}
+use Rattle.doc_hub_events.specs.declared.refusal.MediaSetError.TheVariants as media_errors
 use Rattle.doc_media.specs.Media.{Media}
 use Rattle.doc_server_journal.specs.Journals.{IsOpen}
 use Rattle.doc_server_journal.specs.declared.journal.Journal.{Journal}
@@ -46,6 +48,10 @@ abbrev pub of_restore : RestoreFault → ReloadFault
 of_restore restore_faults.Memory = faults.Refused refusals.Memory
 of_restore fault = faults.Refused (refusals.Record fault)
 
+abbrev pub of_media : MediaSetError → Refusal
+of_media media_errors.Taken = refusals.Taken
+of_media media_errors.Memory = refusals.Memory
+
 -- this holds unless the server ends
 abbrev pub UnlessEnds : {A : Type 0} → Result A ReloadFault → Type 0 → Type 0
 UnlessEnds (Ok x) P = P
@@ -76,6 +82,10 @@ count_of_puts edits = length (filter is_put edits)
 
 abbrev pub count_of_removals : List SiteEdit → ℕ
 count_of_removals edits = length (filter is_removal edits)
+
+-- the same hub beside other media
+abbrev pub beside : {D R : Type 0} → Media → SavedHub D R → SavedHub D R
+beside media saved = record saved { hub = (saved.hub.0, with_media saved.hub.1 media) }
 
 -- ---- what a start would serve
 
@@ -134,6 +144,7 @@ IsStoppedBy config w room texts refusals.Full =
     (again : StoreState) × IsOfStart config w.media texts again × (has_room_for room (map.len again.site.pages) ≡ false)
 IsStoppedBy config w room texts refusals.Other =
     (again : StoreState) × IsOfStart config w.media texts again × (has_counted again config w ≡ false)
+IsStoppedBy config w room texts refusals.Taken = ⊥
 IsStoppedBy config w room texts refusals.Memory = ⊤
 
 -- the journal is as before, or there is none: its device alone was asked
@@ -158,9 +169,11 @@ module _ {D : Type 0} (seen : D → Option (List ℕ)) (may_leave : D → List �
   IsUnread journal refusals.Memory = ⊤
   IsUnread journal refusal = ⊥
 
-  -- Why a reload is refused: the file isn't known to be the journal's; or with its records it is stopped.
+  -- Why a reload is refused: a medium has the path of a page that stands; or the file isn't known to be the journal's; or with its records
+  -- it is stopped. The world is the one of before, beside the media to come.
   abbrev pub IsRefusedFor : StoreState → World → Option (Journal D) → Refusal → Type 0
   IsRefusedFor config w journal refusals.Memory = ⊤
+  IsRefusedFor config w journal refusals.Taken = are_apart w.site w.media ≡ false
   IsRefusedFor config w journal refusal =
       ((refusal ≡ refusals.Other) × IsUnknown journal)
       ⊎ ((texts : List (List ℕ)) × AreTexts journal texts
@@ -175,10 +188,10 @@ module _ {D : Type 0} (seen : D → Option (List ℕ)) (may_leave : D → List �
     pub is : IsOfStart config w.media texts again
     pub site : w.site ≡ again.site
 
-  -- A reload is under way. Its edits lead the site of the world in which it began to the one that a start over these pages would serve, with
-  -- so many records. Some of them are made, and nothing else of the site, of its media and of the journal has changed since: no line waits,
-  -- and the journal has room for the removal of each page of the site to come.
   module _ {R : Type 0} where
+    -- A reload is under way. Its edits lead the site of the world in which it began to the one that a start over these pages would serve,
+    -- with so many records. Some of them are made, and nothing else of the site, of its media and of the journal has changed since: no line
+    -- waits, and the journal has room for the removal of each page of the site to come.
     pub record IsUnderWay (config : StoreState) (begin : World) (lead : Lead) (done : List SiteEdit) (saved : SavedHub D R) : Type 0 where
       pub texts : List (List ℕ)
       pub are_texts : AreTexts saved.journal texts

@@ -1,5 +1,6 @@
 //! Why a reload of pages isn't made.
 
+use doc_hub::refusal::MediaSetError;
 use doc_page_parts::failure::Memory;
 use doc_server_reload::anew::TextsFault;
 use doc_server_restore::fault::RestoreFault;
@@ -18,9 +19,26 @@ pub enum Refusal {
     /// The journal has no room for the removal of each page.
     #[error("journal is full")]
     Full,
+    /// A medium has the path of a page that stands, or of an alias.
+    #[error("a medium has the path of a page that stands")]
+    Taken,
     /// No memory was left.
     #[error("{}", Memory)]
     Memory,
+}
+
+impl From<MediaSetError> for Refusal {
+    ghost use Rattle.std.specs.Prelude.{◌≡◌};
+    ghost use Rattle.doc_server_network.specs.Reloads.{of_media};
+
+    ghost from_gives = { λ e refusal. refusal ≡ of_media e };
+
+    fn from(e: MediaSetError) -> Refusal {
+        match e {
+            MediaSetError::Taken => Refusal::Taken,
+            MediaSetError::Memory => Refusal::Memory,
+        }
+    }
 }
 
 /// Why a reload of pages isn't made.

@@ -2,6 +2,7 @@
 
 ghost use Rattle.std.specs.Prelude.{◌≡◌, ◌≤◌, ◌+◌, List as Seq, ℕ, true, IfErr, IfOk, IfSome};
 ghost use Rattle.std.specs.FinMap as map;
+ghost use Rattle.doc_hub.specs.Worlds.{with_media};
 ghost use Rattle.doc_server_journal.specs.Devices.{LeavesOnly};
 ghost use Rattle.doc_server_journal.specs.Journals.{IsOpen};
 ghost use Rattle.doc_server_network.specs.Crashes.{OfBoth};
@@ -12,6 +13,7 @@ ghost use Rattle.doc_store_readers.specs.Sites.{IsSite};
 
 use crate::reload_fault::{Refusal, ReloadFault};
 use doc_hub::hub::Hub;
+use doc_media::media::Media;
 use doc_page::renderer::Renderer;
 use doc_page_parts::bytes::Bytes;
 use doc_page_parts::heap::{Heap, Vec};
@@ -48,26 +50,28 @@ pub fn texts_anew<D: Device>(
     Ok(texts_of_journal(heap, journal, usize::MAX)?)
 }
 
-/// The pages that a start over a configuration would serve now, with the edits of these records, as far as a hub may have them.
+/// The pages that a start over a configuration would serve now beside these media, with the edits of these records, as far as a hub may
+/// have them.
 pub fn pages_of_start<R: Renderer + Drop>(
     heap: Heap,
     hub: &Hub<R>,
+    media: &Option<Media>,
     room: Option<usize>,
     config: Store,
     texts: &[Bytes],
 ) -> Result<Store, ReloadFault>
     ensures start { IfOk result
-        (λ again. IsOfStart config hub.now.1.media texts.now again) }
+        (λ again. IsOfStart config media.now texts.now again) }
     ensures room { IfOk result (λ again. RemovalsFit room (map.len again.site.pages)) }
     ensures counted { IfOk result
         (λ again. again.puts ≤ config.puts + hub.now.1.puts) }
     ensures sites { IfOk result (λ again. IsSite again.site × IsSite hub.now.1.site) }
     ensures refused { IfErr result (λ fault. (refusal : Refusal)
         × (fault ≡ ReloadFault.Refused refusal)
-        × IsStoppedBy config hub.now.1 room texts.now refusal) }
+        × IsStoppedBy config (with_media hub.now.1 media.now) room texts.now refusal) }
 {
     let counted = config.next_stamp();
-    let again = restored_beside(heap, config, hub.media(), texts)?;
+    let again = restored_beside(heap, config, media, texts)?;
     if !has_room_for(room, page_count(&again)) {
         return Err(ReloadFault::Refused(Refusal::Full));
     }

@@ -22,7 +22,7 @@ mod reloading;
 use crate::permit::Permit;
 use doc_hub::event::{ConnId, Step};
 use doc_hub::hub::Hub;
-use doc_hub::refusal::{ConnectError, PushError, StepError};
+use doc_hub::refusal::{ConnectError, MediaSetError, PushError, StepError};
 use doc_media::media::Media;
 use doc_page::renderer::Renderer;
 use doc_page_parts::heap::Heap;
@@ -170,6 +170,23 @@ impl<D: Device, R: Renderer + Drop> SavedHub<D, R> {
             → IsReady D.seen D.may_leave D.failed D.stale self.new }
     {
         self.hub.set_readers(readers);
+    }
+
+    /// Sets the media, all at once. `Taken` says that one of them has the path of a page, or of an alias; then nothing changes. They are
+    /// the configuration's, so the journal says nothing of them: its records are to be those of a site beside these media.
+    pub fn set_media(&mut self, media: Option<Media>) -> Result<(), MediaSetError>
+        ensures world { Happens (R.page self.old.hub.0) self.old.hub.1
+            (events.SetMedia media) self.new.hub.1 result }
+        ensures given { self.new.hub.1.given ≡ self.old.hub.1.given }
+        ensures same { R.page self.new.hub.0 ≡ R.page self.old.hub.0 }
+        ensures refused { OnErr result
+            (StaysSaved D.seen D.may_leave D.failed D.stale self.old self.new) }
+        ensures journal { self.new.journal ≡ self.old.journal }
+        ensures unsaved { self.new.unsaved ≡ self.old.unsaved }
+        ensures ready { IsReady D.seen D.may_leave D.failed D.stale self.old
+            → IsReady D.seen D.may_leave D.failed D.stale self.new }
+    {
+        self.hub.set_media(media)
     }
 
     /// The bytes of a connection that no reply has answered yet, so that a server can tell what its next step costs.

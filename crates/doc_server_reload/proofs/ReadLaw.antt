@@ -197,6 +197,7 @@ event_edit (events.On id call) is = tt
 event_edit (events.Site edit) is = is
 event_edit (events.Reader edit) is = tt
 event_edit (events.TakePuts takes) is = tt
+event_edit (events.SetMedia media) is = tt
 
 front_so : (edit : Option SiteEdit) (edits : Option (List SiteEdit)) → IfSome edit IsEdit → IfSome edits AreEdits
     → IfSome (in_front edit edits) AreEdits

@@ -3,6 +3,7 @@ use Rattle.std.proofs.Common.{◌≡◌, Bool, refl, ap, sym, subst, ◌∙◌}
 use Rattle.std.proofs.lemmas.List.Elements.{All-head, All-tail}
 use Rattle.std.specs.Prelude.{Result, Ok, Err}
 use Rattle.doc_page_parts.specs.Refusals.{Gives}
+use Rattle.doc_media.specs.Media.{Media}
 use Rattle.doc_store.specs.Store.{StoreState}
 use Rattle.doc_store.specs.declared.moving.MoveError.TheVariants as move_errors
 use Rattle.doc_store.specs.declared.site_edit.SiteEdit.{SiteEdit}
@@ -16,22 +17,26 @@ use Rattle.doc_hub_events.specs.declared.event.Event.{Event}
 use Rattle.doc_hub_events.specs.declared.event.Event.TheVariants as events
 use Rattle.doc_hub.specs.Runs.{Happened, Happens, HappensSite, nothing, first}
 use Rattle.doc_hub.specs.StepLaws.{Agree, AnswersAlike, StepsAlike}
-use Rattle.doc_hub.specs.Worlds.{World, store_of, with_store, world_moved, world_put}
-use Rattle.doc_server_reload.specs.ReplyLaws.{HiddenReloadsChangeNoReply, IsSiteEdit, SeesTheSame, SiteEditsLeaveTheRest, TakesTheSame}
+use Rattle.doc_hub.specs.Worlds.{World, store_of, with_media, with_store, world_moved, world_put}
+use Rattle.doc_server_reload.specs.ReplyLaws.{HiddenReloadsChangeNoReply, IsSiteEdit, SeesTheSame, SeesTheSameMedia}
+use Rattle.doc_server_reload.specs.ReplyLaws.{SiteEditsLeaveTheRest, TakesTheSame}
 
 -- ---- replies
 
--- a world with another store agrees with it for a request of whoever may see the same
-agrees : (w : World) (store : StoreState) (request : Request) → SeesTheSame w store request → TakesTheSame w store request
-    → Agree w (with_store w store) request
-agrees w store request sees takes = record { settings = refl; asking = refl; sites = sees; beside = refl; puts = takes }
+-- a world with another store and other media agrees with it for a request of whoever may see the same
+agrees : (w : World) (store : StoreState) (media : Media) (request : Request) → SeesTheSame w store request
+    → SeesTheSameMedia w media request → TakesTheSame w store request → Agree w (with_media (with_store w store) media) request
+agrees w store media request sees beside takes =
+    record { settings = refl; asking = refl; sites = sees; beside = beside; puts = takes }
 
 pub hidden_reloads_change_no_reply : AnswersAlike → StepsAlike → HiddenReloadsChangeNoReply
 hidden_reloads_change_no_reply answers steps = record {
-  answers = λ render w store request sees takes. answers render w (with_store w store) request (agrees w store request sees takes);
-  steps = λ render w w' v' store c used request said told sees takes begins here there.
-      steps render w (with_store w store) w' v' c c (nexts.Request used request) said told begins
-      (record { unread = begins.unread; stands = begins.stands; begins = begins.begins }) (agrees w store request sees takes) here there;
+  answers = λ render w store media request sees beside takes.
+      answers render w (with_media (with_store w store) media) request (agrees w store media request sees beside takes);
+  steps = λ render w w' v' store media c used request said told sees beside takes begins here there.
+      steps render w (with_media (with_store w store) media) w' v' c c (nexts.Request used request) said told begins
+      (record { unread = begins.unread; stands = begins.stands; begins = begins.begins }) (agrees w store media request sees beside takes)
+      here there;
 }
 
 -- ---- edits of the site

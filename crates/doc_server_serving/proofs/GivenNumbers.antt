@@ -95,6 +95,7 @@ event_gives render w v (events.On id call) said own h = on_gives render w v id.0
 event_gives render w v (events.TakePuts takes) said own h = subst (NoFewer w) (sym h) (as_many w.given)
 event_gives render w v (events.Site edit) said own h = absurd own
 event_gives render w v (events.Reader edit) said own h = absurd own
+event_gives render w v (events.SetMedia media) said own h = absurd own
 
 abbrev IsOwn : Happened → Type 0
 IsOwn h = IsOfPeers h.event

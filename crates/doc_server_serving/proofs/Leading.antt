@@ -44,6 +44,7 @@ peers_serve answered (events.On id call) is = tt
 peers_serve answered (events.TakePuts takes) is = tt
 peers_serve answered (events.Site edit) is = absurd is
 peers_serve answered (events.Reader edit) is = absurd is
+peers_serve answered (events.SetMedia media) is = absurd is
 
 pub given_serve : (old new : Option Given → Type 0) → StayAnswered old new → (e : Event) → IsOfServer old e → IsOfServer new e
 given_serve old new stay events.Connect is = tt
@@ -51,6 +52,7 @@ given_serve old new stay (events.On id call) is = tt
 given_serve old new stay (events.TakePuts takes) is = tt
 given_serve old new stay (events.Site edit) (given, was, is) = (given, stay (Some given) was, is)
 given_serve old new stay (events.Reader edit) (given, was, is) = (given, stay (Some given) was, is)
+given_serve old new stay (events.SetMedia media) (given, was, is) = (given, stay (Some given) was, is)
 
 -- what is of a configuration that was given is a server's
 pub of_given : (answered : Option Given → Type 0) (given : Given) → answered (Some given) → (e : Event) → IsOfGiven given e
@@ -60,6 +62,7 @@ of_given answered given was (events.On id call) is = tt
 of_given answered given was (events.TakePuts takes) is = tt
 of_given answered given was (events.Site edit) is = (given, was, is)
 of_given answered given was (events.Reader edit) is = (given, was, is)
+of_given answered given was (events.SetMedia media) is = (given, was, is)
 
 abbrev pub leads_by : (own : Event → Type 0) (render : Renders) (w v : World) (event : Event) (said : Said event) → own event
     → Happens render w event v said → LeadsBy own render w v

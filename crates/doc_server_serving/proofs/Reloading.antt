@@ -1,21 +1,33 @@
 -- What a reload does to a hub: it is told to nobody's connection.
-use Rattle.std.proofs.Common.{◌≡◌, ℕ, List, refl, sym, ap, subst}
-use Rattle.std.specs.Prelude.{flat_map, Contains, Option, Some}
+use Rattle.std.proofs.Common.{◌≡◌, ◌++◌, ℕ, List, [], Bool, refl, sym, ap, subst, ◌∙◌}
+use Rattle.std.specs.Prelude.{flat_map, Contains, IfSome, Option, Some, None, Result, Ok, Err}
 use Rattle.std.proofs.lemmas.List.Elements.{All-weaker}
 use Rattle.doc_hub_answers.specs.Replies.{Renders}
+use Rattle.doc_hub_events.specs.Events.{setting_media}
 use Rattle.doc_hub_events.specs.declared.event.Event.{Event}
 use Rattle.doc_hub_events.specs.declared.event.Event.TheVariants as events
-use Rattle.doc_hub.specs.Runs.{sent_by}
-use Rattle.doc_hub.specs.RunParts.{pushed_by}
-use Rattle.doc_hub.specs.Worlds.{World}
+use Rattle.doc_hub_events.specs.declared.event.ReaderEdit.TheVariants as reader_edits
+use Rattle.doc_hub_events.specs.declared.refusal.MediaSetError.{MediaSetError}
+use Rattle.doc_hub_events.specs.declared.refusal.MediaSetError.TheVariants as media_errors
+use Rattle.doc_hub.proofs.RunParts.{pushed_join, sent_join}
+use Rattle.doc_hub.specs.Runs.{Happens, sent_by, sent_on}
+use Rattle.doc_hub.specs.RunParts.{pushed_by, pushed_on}
+use Rattle.doc_hub.specs.Worlds.{World, with_media}
+use Rattle.doc_media.specs.Media.{Media}
+use Rattle.doc_server_journal.specs.declared.journal.Journal.{Journal}
+use Rattle.doc_server_network.proofs.QuietEvents.{taken_media}
+use Rattle.doc_server_network.specs.declared.reload_fault.Refusal.{Refusal}
+use Rattle.doc_server_network.specs.declared.reload_fault.Refusal.TheVariants as refusals
 use Rattle.doc_server_network.specs.Leading.{IsOneOf, LeadsByEdits}
-use Rattle.doc_server_network.specs.Reloads.{IsOnTheWay}
+use Rattle.doc_server_network.specs.Reloads.{IsOnTheWay, IsRefusedFor, of_media}
 use Rattle.doc_server_network.specs.Followings.{EditsAlone}
-use Rattle.doc_server_serving.specs.Leading.{IsEdit, IsOfGiven, IsOfLead, IsOfPeers, IsOfReload, IsOfServer, LeadsQuietlyBy}
+use Rattle.doc_server_serving.specs.Forces.{IsUnset}
+use Rattle.doc_server_serving.specs.Leading.{IsEdit, IsOfGiven, IsOfLead, IsOfPeers, IsOfReload, IsOfServer, IsSetting, LeadsQuietlyBy}
 use Rattle.doc_server_serving.specs.declared.given.Configuration.{Configuration}
 use Rattle.doc_server_serving.specs.declared.given.Given.{Given}
 use Rattle.doc_server_serving.specs.declared.given.Given.TheVariants as givens
-use Rattle.doc_server_serving.proofs.Leading.{leads_wider, nothing_on}
+use Rattle.doc_server_serving.proofs.Leading.{leads_on, leads_wider, nothing_on}
+use Rattle.doc_store.specs.Store.{StoreState}
 use Rattle.doc_store.specs.declared.site_edit.SiteEdit.{SiteEdit}
 
 -- a quiet run of some events is one of more of them
@@ -23,6 +35,51 @@ pub quiet_wider : (own more : Event → Type 0) (render : Renders) (w v : World)
     → LeadsQuietlyBy own render w v → LeadsQuietlyBy more render w v
 quiet_wider own more render w v wider a =
     record { leads = leads_wider own more render w v wider a.leads; pushes = a.pushes; sends = a.sends }
+
+-- one behind the other
+pub quiet_join : (own : Event → Type 0) (render page : Renders) (w v u : World) → page ≡ render → LeadsQuietlyBy own render w v
+    → LeadsQuietlyBy own page v u → LeadsQuietlyBy own render w u
+quiet_join own render page w v u same a b = record {
+  leads = leads_on own render page w v u same a.leads b.leads;
+  pushes = λ k. pushed_join k a.leads.run b.leads.run ∙ ap (λ l. l ++ pushed_on k b.leads.run) (a.pushes k) ∙ b.pushes k;
+  sends = λ k. sent_join k a.leads.run b.leads.run ∙ ap (λ l. l ++ sent_on k b.leads.run) (a.sends k) ∙ b.sends k;
+}
+
+-- where there is something, what follows from what holds there
+pub if_weaker : {A : Type 0} (o : Option A) (P Q : Type 0) → (P → Q) → IfSome o (λ _. P) → IfSome o (λ _. Q)
+if_weaker None P Q so is = tt
+if_weaker (Some x) P Q so is = so is
+
+-- media are set to nobody's connection
+pub none_sent : (said : Result (Unit {0}) MediaSetError) → sent_by (setting_media said) ≡ []
+none_sent (Ok fine) = refl
+none_sent (Err e) = refl
+
+-- what sets the readers and the media of a configuration is of it
+pub setting_reloads : (given : Configuration) (e : Event) → IsSetting given.readers given.media e → IsOfReload given e
+setting_reloads given events.Connect is = absurd is
+setting_reloads given (events.On id call) is = absurd is
+setting_reloads given (events.Site edit) is = absurd is
+setting_reloads given (events.Reader (reader_edits.All readers)) is = is
+setting_reloads given (events.Reader (reader_edits.Set token reader)) is = absurd is
+setting_reloads given (events.Reader (reader_edits.Remove token)) is = absurd is
+setting_reloads given (events.TakePuts takes) is = absurd is
+setting_reloads given (events.SetMedia media) is = is
+
+-- why the media weren't set is why the reload was refused
+pub unset_refused : {D : Type 0} (seen : D → Option (List ℕ)) (may_leave : D → List ℕ → Type 0) (failed : D → Bool)
+    (stale : D → ℕ → Type 0) (config : StoreState) (w : World) (media : Media) (journal : Option (Journal D)) (refusal : Refusal)
+    → IsUnset w media refusal → IsRefusedFor seen may_leave failed stale config (with_media w media) journal refusal
+unset_refused seen may_leave failed stale config w media journal refusals.Taken is = is
+unset_refused seen may_leave failed stale config w media journal refusals.Memory is = tt
+unset_refused seen may_leave failed stale config w media journal refusals.Other is = absurd is
+unset_refused seen may_leave failed stale config w media journal refusals.Full is = absurd is
+unset_refused seen may_leave failed stale config w media journal (refusals.Record fault) is = absurd is
+
+pub unset_by : (render : Renders) (w v : World) (media : Media) (e : MediaSetError) → Happens render w (events.SetMedia media) v (Err e)
+    → IsUnset w media (of_media e)
+unset_by render w v media media_errors.Taken happens = taken_media render w v media happens
+unset_by render w v media media_errors.Memory happens = tt
 
 -- the edits of a part of a reload
 module _ (edits part : List SiteEdit) (some : (edit : SiteEdit) → Contains part edit → Contains edits edit) where
@@ -32,6 +89,7 @@ module _ (edits part : List SiteEdit) (some : (edit : SiteEdit) → Contains par
   edits_alone (events.Site edit) is = (edit, refl)
   edits_alone (events.Reader edit) is = absurd is
   edits_alone (events.TakePuts takes) is = absurd is
+  edits_alone (events.SetMedia media) is = absurd is
 
   are_of_lead : (e : Event) → IsOneOf part e → IsOfLead edits e
   are_of_lead events.Connect is = absurd is
@@ -39,6 +97,7 @@ module _ (edits part : List SiteEdit) (some : (edit : SiteEdit) → Contains par
   are_of_lead (events.Site edit) is = some edit is
   are_of_lead (events.Reader edit) is = absurd is
   are_of_lead (events.TakePuts takes) is = absurd is
+  are_of_lead (events.SetMedia media) is = absurd is
 
   pub quiet_part : (render : Renders) (w v : World) → LeadsByEdits render part w v → LeadsQuietlyBy (IsOfLead edits) render w v
   quiet_part render w v is = record {
@@ -58,6 +117,7 @@ peers_lead edits (events.On id call) is = tt
 peers_lead edits (events.TakePuts takes) is = tt
 peers_lead edits (events.Site edit) is = absurd is
 peers_lead edits (events.Reader edit) is = absurd is
+peers_lead edits (events.SetMedia media) is = absurd is
 
 -- a reload's edits, made with turns between, are of its configuration
 pub lead_reloads : (given : Configuration) (edits : List SiteEdit) → ((edit : SiteEdit) → Contains edits edit → IsOnTheWay given.pages edit)
@@ -67,6 +127,7 @@ lead_reloads given edits way (events.On id call) is = tt
 lead_reloads given edits way (events.TakePuts takes) is = tt
 lead_reloads given edits way (events.Site edit) is = way edit is
 lead_reloads given edits way (events.Reader edit) is = absurd is
+lead_reloads given edits way (events.SetMedia media) is = absurd is
 
 -- and the server's, where that was answered
 pub reload_serves : (answered : Option Given → Type 0) (given : Configuration) → answered (Some (givens.Configuration given)) → (e : Event)
@@ -76,6 +137,7 @@ reload_serves answered given was (events.On id call) is = tt
 reload_serves answered given was (events.TakePuts takes) is = tt
 reload_serves answered given was (events.Site edit) is = (givens.Configuration given, was, is)
 reload_serves answered given was (events.Reader edit) is = (givens.Configuration given, was, is)
+reload_serves answered given was (events.SetMedia media) is = (givens.Configuration given, was, is)
 
 -- the edits of records that are followed
 edits_are : (e : Event) → IsEdit e → (edit : SiteEdit) × (e ≡ events.Site edit)
@@ -84,6 +146,7 @@ edits_are (events.On id call) is = absurd is
 edits_are (events.Site edit) is = (edit, refl)
 edits_are (events.Reader edit) is = absurd is
 edits_are (events.TakePuts takes) is = absurd is
+edits_are (events.SetMedia media) is = absurd is
 
 pub quiet_follow : (texts : List (List ℕ)) (render : Renders) (w v : World) → EditsAlone render w v
     → LeadsQuietlyBy (IsOfGiven (givens.Records texts)) render w v

@@ -1,11 +1,14 @@
 -- The configuration in force, and what becomes of one that is given. All of this is this project's choice.
-use Rattle.std.specs.Prelude.{◌≡◌, ◌⊎◌, ℕ, List, Bool, Option, Some, None, Result, Ok, Err}
-use Rattle.doc_hub.specs.Worlds.{World, store_of, with_store}
+use Rattle.std.specs.Prelude.{◌≡◌, ◌⊎◌, ⊤, ℕ, List, Bool, false, Option, Some, None, Result, Ok, Err}
+use Rattle.doc_hub.specs.Worlds.{World, are_apart, store_of, with_media, with_store}
 use Rattle.doc_server_journal.specs.declared.journal.Journal.{Journal}
+use Rattle.doc_media.specs.Media.{Media}
 use Rattle.doc_server_network.specs.KeptTurns.{IsOfCalls}
+use Rattle.doc_server_network.specs.Readers.{ReaderTable}
 use Rattle.doc_server_network.specs.Reloads.{IsRefusedFor, IsRestarted, pages_alone}
 use Rattle.doc_server_network.specs.Saved.{IsSettled}
 use Rattle.doc_server_network.specs.declared.reload_fault.Refusal.{Refusal}
+use Rattle.doc_server_network.specs.declared.reload_fault.Refusal.TheVariants as refusals
 use Rattle.doc_server_network.specs.declared.reloaded.Reloaded.{Reloaded}
 use Rattle.doc_server_network.specs.declared.saved_hub.SavedHub.{SavedHub}
 use Rattle.doc_server_serving.specs.declared.given.Configuration.{Configuration}
@@ -38,16 +41,26 @@ pub record AreFollowed {D : Type 0} (texts : List (List ℕ)) (before behind : W
   pub others : behind ≡ with_store before (store_of behind)
   pub alone : journal ≡ None
 
+-- the world beside these media, with these readers
+abbrev pub with_both : World → ReaderTable → Media → World
+with_both w readers media = record (with_media w media) { readers = readers }
+
+-- why media weren't set
+abbrev pub IsUnset : World → Media → Refusal → Type 0
+IsUnset w media refusals.Taken = are_apart w.site media ≡ false
+IsUnset w media refusals.Memory = ⊤
+IsUnset w media refusal = ⊥
+
 module _ {D : Type 0} (seen : D → Option (List ℕ)) (may_leave : D → List ℕ → Type 0) (failed : D → Bool) (stale : D → ℕ
     → Type 0) where
-  -- What came of a configuration: the readers are its readers, and the site is the one that a start over it would serve; or it was refused,
-  -- and the world is as before.
+  -- What came of a configuration: the readers are its readers, the media its media, and the site is the one that a start over it would
+  -- serve; or it was refused, and the world is as before.
   abbrev pub IsOutcome : World → World → Option (Journal D) → Configuration → Result Reloaded Refusal → Type 0
   IsOutcome before behind journal given (Ok reloaded) =
-      (behind.readers ≡ given.readers)
+      (behind.readers ≡ given.readers) × (behind.media ≡ given.media)
       × IsRestarted seen may_leave failed stale given.pages journal behind reloaded.records
   IsOutcome before behind journal given (Err refusal) =
-      (behind ≡ before) × IsRefusedFor seen may_leave failed stale given.pages before journal refusal
+      (behind ≡ before) × IsRefusedFor seen may_leave failed stale given.pages (with_media before given.media) journal refusal
 
   -- what came of an answer; of a configuration it was told so
   abbrev pub IsAsAnswered : (Result Reloaded Refusal → Type 0) → World → World → Option (Journal D) → Option Given → Type 0

@@ -7,6 +7,8 @@ use Rattle.doc_hub_events.specs.declared.event.Event.{Event}
 use Rattle.doc_hub_events.specs.declared.event.Event.TheVariants as events
 use Rattle.doc_hub_events.specs.declared.event.ReaderEdit.TheVariants as reader_edits
 use Rattle.doc_hub.specs.Worlds.{World}
+use Rattle.doc_media.specs.Media.{Media}
+use Rattle.doc_server_network.specs.Readers.{ReaderTable}
 use Rattle.doc_server_network.specs.Reloads.{IsOnTheWay}
 use Rattle.doc_server_serving.specs.declared.given.Configuration.{Configuration}
 use Rattle.doc_server_serving.specs.declared.given.Given.{Given}
@@ -20,9 +22,16 @@ IsOfPeers (events.On id call) = ⊤
 IsOfPeers (events.TakePuts takes) = ⊤
 IsOfPeers event = ⊥
 
--- the readers of a configuration, all at once; or an edit on the way to what a start over its pages would serve
+-- these readers are set, or these media
+abbrev pub IsSetting : ReaderTable → Media → Event → Type 0
+IsSetting readers media (events.Reader (reader_edits.All set)) = set ≡ readers
+IsSetting readers media (events.SetMedia set) = set ≡ media
+IsSetting readers media event = ⊥
+
+-- the readers of a configuration, all at once, or its media; or an edit on the way to what a start over its pages would serve
 abbrev pub IsOfConfiguration : Configuration → Event → Type 0
 IsOfConfiguration given (events.Reader (reader_edits.All readers)) = readers ≡ given.readers
+IsOfConfiguration given (events.SetMedia media) = media ≡ given.media
 IsOfConfiguration given (events.Site edit) = IsOnTheWay given.pages edit
 IsOfConfiguration given event = ⊥
 
@@ -41,6 +50,7 @@ abbrev pub IsOfServer : (Option Given → Type 0) → Event → Type 0
 IsOfServer answered (events.Reader edit) =
     (given : Given) × answered (Some given) × IsOfGiven given (events.Reader edit)
 IsOfServer answered (events.Site edit) = (given : Given) × answered (Some given) × IsOfGiven given (events.Site edit)
+IsOfServer answered (events.SetMedia media) = (given : Given) × answered (Some given) × IsOfGiven given (events.SetMedia media)
 IsOfServer answered event = IsOfPeers event
 
 -- an event of peers, or one of some edits of the site
@@ -48,10 +58,11 @@ abbrev pub IsOfLead : List SiteEdit → Event → Type 0
 IsOfLead edits (events.Site edit) = Contains edits edit
 IsOfLead edits event = IsOfPeers event
 
--- an event of peers, or the readers of a configuration, or an edit on the way to it
+-- an event of peers, or the readers or the media of a configuration, or an edit on the way to it
 abbrev pub IsOfReload : Configuration → Event → Type 0
 IsOfReload given (events.Reader edit) = IsOfConfiguration given (events.Reader edit)
 IsOfReload given (events.Site edit) = IsOfConfiguration given (events.Site edit)
+IsOfReload given (events.SetMedia media) = IsOfConfiguration given (events.SetMedia media)
 IsOfReload given event = IsOfPeers event
 
 -- a run of such events alone leads from one world to the other

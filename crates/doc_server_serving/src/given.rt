@@ -1,5 +1,6 @@
 //! What a server is given while it serves.
 
+use doc_media::media::Media;
 use doc_page_parts::bytes::Bytes;
 use doc_page_parts::list::List;
 use doc_store::readers::Readers;
@@ -14,9 +15,11 @@ pub enum Given {
     Records(List<Bytes>),
 }
 
-/// Readers and pages of a configuration. On the pages stand the edits of the journal besides.
+/// Readers, pages and media of a configuration. On the pages stand the edits of the journal besides.
 #[derive(Drop)]
 pub struct Configuration {
     pub readers: Readers,
     pub pages: Store,
+    /// None where it asks for no media.
+    pub media: Option<Media>,
 }

@@ -1,2 +1,3 @@
+mod AnswerSteps
 mod LintSteps
 mod StoreSteps

@@ -1,5 +1,5 @@
 -- What is told of a configuration.
-use Rattle.std.proofs.Common.{◌≡◌, ℕ, List, Bool, true, false, subst, sym, ◌∙◌}
+use Rattle.std.proofs.Common.{◌≡◌, ℕ, List, true, false, subst, sym, ◌∙◌}
 use Rattle.std.specs.Prelude.{Some, None}
 use Rattle.std.specs.List.{list_any}
 use Rattle.std.proofs.lemmas.Option.{none-some, same_Some}

@@ -9,12 +9,11 @@ use Rattle.doc_server_serving.specs.declared.given.Given.TheVariants as givens
 use Rattle.docs_server.specs.Followed.{AreAllTaken}
 use Rattle.docs_server.specs.Reloading.{IsConfigured}
 
--- the pages of some configuration, with the edits of all records of some journal on them, made beside media
-pub record IsConfiguredBehind (pages : StoreState) : Type 0 where
+-- the pages of some configuration, with the edits of all records of some journal on them, made beside these media
+pub record IsConfiguredBehind (media : Media) (pages : StoreState) : Type 0 where
   pub config : StoreState
   pub followed : Followed
   pub texts : List (List ℕ)
-  pub media : Media
   pub configured : IsConfigured config
   pub taken : AreAllTaken followed texts
   pub made : restored media (unstamped config) texts ≡ Ok (unstamped pages)
@@ -23,5 +22,5 @@ pub record IsConfiguredBehind (pages : StoreState) : Type 0 where
 -- each configuration the pages are those of one, behind the edits of a journal.
 abbrev pub HasGiven : ℕ → Option Given → Type 0
 HasGiven count None = ⊤
-HasGiven count (Some (givens.Configuration given)) = (1 ≤ count) × IsConfiguredBehind given.pages
+HasGiven count (Some (givens.Configuration given)) = (1 ≤ count) × IsConfiguredBehind given.media given.pages
 HasGiven count (Some (givens.Records texts)) = 1 ≤ count

@@ -305,19 +305,28 @@ impl<'a, P: AllocGlobal + Clock + Clone + Drop + Eprint + Files<File = File> + I
     /// The configuration, read anew, with the edits of the journal that stands under its name now.
     fn read_anew(
         &mut self,
-        media: &Option<Media>,
+        served: &Option<Media>,
         word: Option<&str>,
     ) -> Result<Configuration, ReloadFault>
-        ensures given { IfOk result (λ given. IsConfiguredBehind given.pages) }
+        ensures given { IfOk result
+            (λ given. IsConfiguredBehind given.media given.pages) }
         ensures count { self.new.count ≡ self.old.count }
     {
         let (journal, texts) = take_journal(self.rt, self.heap, self.name.get())?;
-        let given = self.config.reload(media, word)?;
-        let Configuration { readers, pages } = given;
-        match restored_beside(self.heap, pages, media, texts.get()) {
+        let given = self.config.reload(served, word)?;
+        let Configuration {
+            readers,
+            pages,
+            media,
+        } = given;
+        match restored_beside(self.heap, pages, &media, texts.get()) {
             Ok(pages) => {
                 self.given = Some(journal);
-                Ok(Configuration { readers, pages })
+                Ok(Configuration {
+                    readers,
+                    pages,
+                    media,
+                })
             }
             Err(fault) => {
                 self.config.forget();
@@ -356,8 +365,8 @@ impl<'a, P: AllocGlobal + Clock + Clone + Drop + Eprint + Files<File = File> + I
             self.config.tell_served(reloaded);
             return;
         }
-        let _ = self.config.serve_given();
-        self.config.tell_made(FOLLOWING, reloaded);
+        let changed = self.config.serve_given();
+        self.config.tell_made(FOLLOWING, changed, reloaded);
     }
 
     /// It is refused.
@@ -414,8 +423,7 @@ impl<P: AllocGlobal + Clock + Clone + Drop + Eprint + Files<File = File> + Input
     }
 
     fn note(&mut self, pages: usize, _journal_bytes: Option<usize>) {
-        self.shared
-            .tell_standing(pages, Some(self.journal.followed.end()));
+        self.shared.tell_followed(pages, &self.journal.followed);
     }
 }
 

@@ -2,6 +2,7 @@
 
 use crate::files::Pages;
 use crate::made_pages::MadePages;
+use doc_media::media::Media;
 use doc_page_parts::heap::Heap;
 use doc_page_parts::list::List;
 use doc_server_config::document::Document;
@@ -14,6 +15,9 @@ use doc_server_streams::fault::Fault;
 pub struct Pending {
     pub document: Document,
     pub names: Names,
+    /// How many media it has, and whether they are others than those that are served.
+    pub media_count: usize,
+    pub has_other_media: bool,
 }
 
 /// What a configuration gives, whose files are read.
@@ -22,6 +26,7 @@ pub struct Gathered {
     pub pending: Pending,
     pub pages: Pages,
     pub moves: List<Move>,
+    pub media: Option<Media>,
 }
 
 /// The same, once its pages are in a store.
@@ -29,6 +34,7 @@ pub struct Gathered {
 pub struct Made {
     pub pending: Pending,
     pub pages: MadePages,
+    pub media: Option<Media>,
 }
 
 impl Gathered {
@@ -38,8 +44,13 @@ impl Gathered {
             pending,
             pages,
             moves,
+            media,
         } = self;
         let pages = MadePages::make(heap, pages, moves)?;
-        Ok(Made { pending, pages })
+        Ok(Made {
+            pending,
+            pages,
+            media,
+        })
     }
 }

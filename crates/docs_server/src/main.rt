@@ -4,6 +4,7 @@
 mod access_log;
 mod arguments;
 mod bounded;
+mod changed;
 mod commands;
 mod compacting;
 mod ended;

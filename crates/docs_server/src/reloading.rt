@@ -4,6 +4,7 @@ ghost use Rattle.std.specs.Prelude.{◌≡◌, IfOk, None, OnErr};
 ghost use Rattle.docs_server.specs.Reloading.{IsConfigured};
 
 use crate::bounded::{Bounded, Opened, bounded_of, bounded_with, opened_of, written_of};
+use crate::changed::Changed;
 use crate::files::{Site, read_file};
 use crate::gathered::{Gathered, Made, Pending};
 use crate::gathered_media::are_served;
@@ -44,9 +45,6 @@ const READERS: &str = "reader";
 const PAGES: &str = "page";
 
 const FOLDERS: &str = "folder";
-
-/// The key of a folder that tells that its media have changed.
-const MEDIA: &str = "media";
 
 /// A configuration that is served, and that can be read anew.
 #[derive(Drop)]
@@ -161,7 +159,7 @@ impl<'a, P: AllocGlobal + Clock + Clone + Drop + Eprint + Files + Input> Reloadi
         Ok(Reading::begin(self.heap, document, opened)?)
     }
 
-    /// What a document and the files that it names give, which are read. Where other media stand than are served it is refused.
+    /// What a document and the files that it names give, which are read.
     pub fn end(
         &self,
         served: &Option<Media>,
@@ -176,7 +174,7 @@ impl<'a, P: AllocGlobal + Clock + Clone + Drop + Eprint + Files + Input> Reloadi
         self.take(served, document, bounded)
     }
 
-    /// What a configuration gives, whose files are read. Where other media stand than are served it is refused.
+    /// What a configuration gives, whose files are read.
     fn take(
         &self,
         served: &Option<Media>,
@@ -193,15 +191,19 @@ impl<'a, P: AllocGlobal + Clock + Clone + Drop + Eprint + Files + Input> Reloadi
             names,
         } = bounded;
         let paths = media_paths.get();
-        if paths.len() != self.media_count || !are_served(served, &media, paths) {
-            return Err(ReloadFault::Changed(Text::copy_of(self.heap, MEDIA)?));
-        }
+        let has_other_media = paths.len() != self.media_count || !are_served(served, &media, paths);
         tell_passed(self.rt, passed.get());
         let Site { pages, entities: _ } = site;
         Ok(Gathered {
-            pending: Pending { document, names },
+            pending: Pending {
+                document,
+                names,
+                media_count: paths.len(),
+                has_other_media,
+            },
             pages,
             moves,
+            media,
         })
     }
 
@@ -211,10 +213,18 @@ impl<'a, P: AllocGlobal + Clock + Clone + Drop + Eprint + Files + Input> Reloadi
         ensures count { self.new.count ≡ self.old.count }
         ensures document { self.new.document ≡ self.old.document }
     {
-        let Made { pending, pages } = made;
+        let Made {
+            pending,
+            pages,
+            media,
+        } = made;
         self.given = Some(pending);
         let (readers, pages) = pages.end();
-        Configuration { readers, pages }
+        Configuration {
+            readers,
+            pages,
+            media,
+        }
     }
 
     /// Tells what came of a reload: it is served from here on.
@@ -222,30 +232,31 @@ impl<'a, P: AllocGlobal + Clock + Clone + Drop + Eprint + Files + Input> Reloadi
         ensures count { self.new.count ≡ self.old.count }
         ensures given { self.new.given ≡ None }
     {
-        let has_other_readers = self.serve_given();
+        let changed = self.serve_given();
         let Reloaded {
             put,
             removed,
             records: _,
         } = reloaded;
-        if !has_other_readers && put == 0 && removed == 0 {
+        if !changed.is_any() && put == 0 && removed == 0 {
             let _ = eprintln!(self.rt; "reload: nothing has changed");
             return;
         }
         self.shared.tell_reload(seconds_of(self.rt));
-        self.tell_made("reload", reloaded);
+        self.tell_made("reload", changed, reloaded);
     }
 
     /// Tells what stands by a reload, or by what this word says.
-    pub fn tell_made(&self, what: &str, reloaded: Reloaded) {
+    pub fn tell_made(&self, what: &str, changed: Changed, reloaded: Reloaded) {
         let Reloaded {
             put,
             removed,
             records,
         } = reloaded;
         let readers = reader_count(&self.document.table);
+        let media = if changed.media { ", other media" } else { "" };
         let _ = eprintln!(self.rt;
-            "{what}: {readers} readers, {put} pages put, {removed} removed (record {records})"
+            "{what}: {readers} readers, {put} pages put, {removed} removed{media} (record {records})"
         );
     }
 
@@ -267,18 +278,30 @@ impl<'a, P: AllocGlobal + Clock + Clone + Drop + Eprint + Files + Input> Reloadi
         self.given = None;
     }
 
-    /// What was given is served from here on, and the log finds its readers' names. Answers whether the readers are others.
-    pub fn serve_given(&mut self) -> bool
+    /// What was given is served from here on, and the log finds its readers' names. Answers what is another than before.
+    pub fn serve_given(&mut self) -> Changed
         ensures count { self.new.count ≡ self.old.count }
         ensures given { self.new.given ≡ None }
     {
-        let Some(Pending { document, names }) = self.given.take() else {
-            return false;
+        let Some(
+            Pending {
+                document,
+                names,
+                media_count,
+                has_other_media,
+            },
+        ) = self.given.take()
+        else {
+            return Changed::NOTHING;
         };
-        let has_changed = !has_same_readers(&self.document.table, &document.table);
+        let readers = !has_same_readers(&self.document.table, &document.table);
         self.document = document;
+        self.media_count = media_count;
         self.shared.names.set(Some(names));
-        has_changed
+        Changed {
+            readers,
+            media: has_other_media,
+        }
     }
 
     /// A turn has ended: so many pages stand, and where there is a journal its records end behind so many bytes.

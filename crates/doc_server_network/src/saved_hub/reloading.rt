@@ -1,9 +1,9 @@
 //! A reload of pages, in two calls: one finds the edits that lead a hub to what a start would serve, the other makes some of them.
 
 ghost use Rattle.std.specs.Prelude.{◌≡◌, [], Some, IfErr, IfOk, IfSome, OnOk};
-ghost use Rattle.doc_hub.specs.Worlds.{World, store_of, with_store};
+ghost use Rattle.doc_hub.specs.Worlds.{World, store_of, with_media, with_store};
 ghost use Rattle.doc_server_network.specs.Crashes.{CrashesLeave, Restores};
-ghost use Rattle.doc_server_network.specs.Reloads.{IfCannotWrite, IfRefused, IsRefusedFor, IsUnderWay, UnlessEnds};
+ghost use Rattle.doc_server_network.specs.Reloads.{IfCannotWrite, IfRefused, IsRefusedFor, IsUnderWay, UnlessEnds, beside};
 ghost use Rattle.doc_server_network.specs.Saved.{HasAll, HasFailed, IsAllSaved, IsReady, IsSaved, StaysSaved, no_lines};
 ghost use Rattle.doc_server_reload.specs.Leading.{LeadsByEdits};
 ghost use Rattle.doc_server_reload.specs.ReplyLaws.{SiteEditsLeaveTheRest};
@@ -14,6 +14,7 @@ use crate::lead::Lead;
 use crate::reload_fault::ReloadFault;
 use crate::reloading::{pages_of_start, texts_anew};
 use crate::saved_hub::{SavedHub, lines_for};
+use doc_media::media::Media;
 use doc_page::renderer::Renderer;
 use doc_page_parts::failure::Memory;
 use doc_page_parts::heap::Heap;
@@ -29,18 +30,23 @@ use doc_store::store::Store;
 
 impl<D: Device, R: Renderer + Drop> SavedHub<D, R> {
     /// Reads the journal's records anew, makes their edits on these pages beside, and finds the edits that lead the hub to the site that a
-    /// start over them would serve; the hub is as it was, and they are to be made by `lead`. A server calls it between turns. Where it is
-    /// refused all is as it was; after `Ends` the server ends.
-    pub fn begin_reload(&mut self, heap: Heap, config: Store) -> Result<Lead, ReloadFault>
+    /// start over them and beside these media would serve; the hub is as it was, the media are to be set by `set_media`, and then the edits
+    /// are to be made by `lead`. A server calls it between turns. Where it is refused all is as it was; after `Ends` the server ends.
+    pub fn begin_reload(
+        &mut self,
+        heap: Heap,
+        config: Store,
+        media: &Option<Media>,
+    ) -> Result<Lead, ReloadFault>
         requires ready { IsReady D.seen D.may_leave D.failed D.stale self.old }
         requires all { IsAllSaved self.old }
         ensures hub { self.new.hub ≡ self.old.hub }
         ensures ready { UnlessEnds result (IsReady D.seen D.may_leave D.failed D.stale self.new) }
         ensures all { UnlessEnds result (IsAllSaved self.new) }
         ensures begun { IfOk result (λ lead. IsUnderWay D.seen D.may_leave D.failed D.stale config
-            self.old.hub.1 lead [] self.new) }
+            (with_media self.old.hub.1 media.now) lead [] (beside media.now self.new)) }
         ensures refused { IfRefused result (λ refusal. IsRefusedFor D.seen D.may_leave D.failed
-            D.stale config self.old.hub.1 self.new.journal refusal) }
+            D.stale config (with_media self.old.hub.1 media.now) self.new.journal refusal) }
         ensures kept { IfRefused result
             (λ _. StaysSaved D.seen D.may_leave D.failed D.stale self.old self.new) }
         ensures saved { OnOk result
@@ -53,7 +59,7 @@ impl<D: Device, R: Renderer + Drop> SavedHub<D, R> {
     {
         let texts = texts_anew(heap, &mut self.journal)?;
         let records = texts.get();
-        let again = pages_of_start(heap, &self.hub, self.room(), config, records)?;
+        let again = pages_of_start(heap, &self.hub, media, self.room(), config, records)?;
         let edits = lead(heap, self.hub.store(), &again)?;
         self.unsaved = lines_where(heap, &self.journal);
         Ok(Lead {

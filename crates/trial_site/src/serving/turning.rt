@@ -138,7 +138,7 @@ fn reload<D: Device, R: Renderer + Drop>(
         out.push_str("no pages | ")?;
         return Ok(true);
     };
-    match saved.begin_reload(heap, pages) {
+    match saved.begin_reload(heap, pages, &None) {
         Ok(begun) => lead(saved, &begun, out),
         Err(ReloadFault::Refused(refusal)) => {
             write!(out, "refused: {refusal} | ")?;

@@ -2,7 +2,6 @@ use Rattle.std.proofs.Common.{◌≡◌, ap, false, refl, subst, sym, ◌∙◌}
 use Rattle.doc_server_network.specs.Reloads.{RemovalsFit, has_room_for, is_counted}
 use Rattle.doc_store.specs.Store.{stamp_after}
 use Rattle.doc_server_network.specs.declared.reload_fault.Refusal.TheVariants as refusals
-use Rattle.doc_server_network.proofs.Reloads.{starts}
 use Rattle.doc_server_network.proofs.reloading.pages_of_start.Goals as goal
 
 pub returns-then-not-has_room_for-clause-refused : goal.returns-then-not-has_room_for-clause-refused
@@ -11,8 +10,7 @@ returns-then-not-has_room_for-clause-refused g c = (
   refl,
   (
     c.in_ok-again.again,
-    starts c.args.config c.media.result.now c.args.hub.now.1.media c.args.texts.now c.in_ok-again.again c.media.ensures
-        c.in_ok-again.ensures.restored,
+    record { gives = c.in_ok-again.ensures.restored },
     ap (has_room_for c.args.room) (sym c.page_count.ensures) ∙ sym c.has_room_for.ensures.exact ∙ c.if-not-has_room_for.true,
   ),
 )
@@ -23,8 +21,7 @@ returns-then-not-is_counted-clause-refused g c = (
   refl,
   (
     c.in_ok-again.again,
-    starts c.args.config c.media.result.now c.args.hub.now.1.media c.args.texts.now c.in_ok-again.again c.media.ensures
-        c.in_ok-again.ensures.restored,
+    record { gives = c.in_ok-again.ensures.restored },
     subst (λ x. is_counted x (stamp_after c.args.config.puts) (stamp_after c.args.hub.now.1.puts) ≡ false) c.next_stamp.ensures.stamp
         (subst (λ x. is_counted c.next_stamp.result x (stamp_after c.args.hub.now.1.puts) ≡ false) c.next_stamp-counted.ensures.stamp
         (subst (λ x. is_counted c.next_stamp.result c.next_stamp-counted.result x ≡ false)

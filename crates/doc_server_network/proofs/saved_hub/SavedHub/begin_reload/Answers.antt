@@ -1,5 +1,6 @@
 use Rattle.std.proofs.Common.{ap, refl, subst, sym, ◌∙◌}
 use Rattle.std.specs.FinMap as map
+use Rattle.doc_hub.specs.Worlds.{with_media}
 use Rattle.doc_server_reload.specs.Leads.{led}
 use Rattle.doc_store_readers.specs.Sites.{Site}
 use Rattle.doc_server_network.specs.Reloads.{AreTexts, RemovalsFit}
@@ -27,7 +28,8 @@ returns-in_err-texts-clause-all g c =
 pub returns-in_err-texts-clause-refused : goal.returns-in_err-texts-clause-refused
 returns-in_err-texts-clause-refused g c =
     unread_why c.from_residual.result c.in_err-texts.field-0.0 c.from_residual.ensures.1
-    g.D.Device.seen g.D.Device.may_leave g.D.Device.failed g.D.Device.stale c.args.config c.args.self.now.hub.1
+    g.D.Device.seen g.D.Device.may_leave g.D.Device.failed g.D.Device.stale c.args.config
+    (with_media c.args.self.now.hub.1 c.args.media.now)
     c.args.self.now.journal c.texts_anew.new.journal c.args.self.now.unsaved c.texts_anew.ensures.same c.in_err-texts.ensures.refused
 
 pub returns-in_err-texts-clause-kept : goal.returns-in_err-texts-clause-kept
@@ -70,7 +72,8 @@ pub returns-in_err-again-clause-refused : goal.returns-in_err-again-clause-refus
 returns-in_err-again-clause-refused g c =
     let (refusal, is, why) = c.in_err-again.ensures.refused in
     stopped_why c.from_residual-in_err-again.result c.in_err-again.field-0.0 c.from_residual-in_err-again.ensures.1
-    g.D.Device.seen g.D.Device.may_leave g.D.Device.failed g.D.Device.stale c.args.config c.args.self.now.hub.1
+    g.D.Device.seen g.D.Device.may_leave g.D.Device.failed g.D.Device.stale c.args.config
+    (with_media c.args.self.now.hub.1 c.args.media.now)
     c.args.self.now.journal c.texts_anew.new.journal c.args.self.now.unsaved c.texts_anew.ensures.same
     c.get-records.result.now c.room.result refusal is
     (subst (AreTexts g.D.Device.seen g.D.Device.may_leave g.D.Device.failed g.D.Device.stale c.texts_anew.new.journal) (sym c.get-records.ensures) c.in_ok-texts.ensures.read) c.room.ensures why
@@ -95,7 +98,8 @@ returns-in_err-edits-clause-kept g c =
 pub returns-in_err-edits-clause-refused : goal.returns-in_err-edits-clause-refused
 returns-in_err-edits-clause-refused g c =
     lacking_why c.from_residual-in_err-edits.result (faults.Refused refusals.Memory) c.from_residual-in_err-edits.ensures.1
-    g.D.Device.seen g.D.Device.may_leave g.D.Device.failed g.D.Device.stale c.args.config c.args.self.now.hub.1
+    g.D.Device.seen g.D.Device.may_leave g.D.Device.failed g.D.Device.stale c.args.config
+    (with_media c.args.self.now.hub.1 c.args.media.now)
     c.args.self.now.journal c.texts_anew.new.journal c.args.self.now.unsaved c.texts_anew.ensures.same refl
 
 pub returns-in_err-edits-clause-ready : goal.returns-in_err-edits-clause-ready

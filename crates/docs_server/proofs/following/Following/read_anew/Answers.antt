@@ -8,9 +8,8 @@ returns-in-Ok-clause-given g c = record {
   config = c.in_ok-given.given.pages;
   followed = c.in_ok-journal.journal.followed;
   texts = c.in_ok-journal.texts;
-  media = c.args.media.now;
   configured = c.in_ok-given.ensures.given;
   taken = c.in_ok-journal.ensures;
-  made = subst (λ (texts : List (List ℕ)). restored c.args.media.now (unstamped c.in_ok-given.given.pages) texts
+  made = subst (λ (texts : List (List ℕ)). restored c.in_ok-given.given.media (unstamped c.in_ok-given.given.pages) texts
       ≡ Ok (unstamped c.in-Ok.pages)) c.get-2.ensures c.in-Ok.ensures.restored;
 }
