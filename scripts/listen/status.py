@@ -17,8 +17,8 @@ LARGE = '[[page]]\npath = "large.md"\ntext = "' + "word " * 40_000 + '"\n'
 # its pages are two
 SITE = OWNER + PAGE + LARGE
 # the metrics in their order, and their kinds
-METRICS = [("docs_requests_total", "counter"), ("docs_unauthorized_total", "counter"), ("docs_bytes_total", "counter"),
-           ("docs_connections", "gauge"), ("docs_connections_most", "gauge"), ("docs_turn_seconds_max", "gauge"),
+METRICS = [("docs_requests_total", "counter"), ("docs_unauthorized_total", "counter"), ("docs_edits_total", "counter"),
+           ("docs_bytes_total", "counter"), ("docs_connections", "gauge"), ("docs_connections_most", "gauge"), ("docs_turn_seconds_max", "gauge"),
            ("docs_pages", "gauge"), ("docs_journal_bytes", "gauge"), ("docs_record", "gauge"), ("docs_reload_total", "counter"),
            ("docs_reload_time_seconds", "gauge")]
 
@@ -125,6 +125,7 @@ def counters():
     classes = [found[("docs_requests_total", it)] for it in ("2xx", "3xx", "4xx", "5xx")]
     scene.check("by class", classes == [4, 0, 2, 0], classes)
     scene.check("401", found[("docs_unauthorized_total",)] == 1)
+    scene.check("edits", found[("docs_edits_total",)] == 1)
     scene.check("bytes", found[("docs_bytes_total",)] == sent[0], (found[("docs_bytes_total",)], sent))
     scene.check("connections", (found[("docs_connections",)], found[("docs_connections_most",)]) == (3, 3), found)
     clients[0].close()
@@ -142,11 +143,13 @@ def counters():
 def pages():
     """Pages are counted as an owner sees them; edits leave no bytes where there is no journal."""
     site = Watched()
-    owner = Client(site.server.port, "tok")
+    owner, edits = Client(site.server.port, "tok"), 0
     for name, target, method, code, count in (("at the start", "/page/large.md", "GET", 200, 2), ("one more", "/page/n.md", "PUT", 201, 3),
                                               ("another text", "/page/n.md", "PUT", 204, 3), ("one less", "/page/large.md", "DELETE", 204, 2)):
         scene.check(f"pages: {name}: the reply", owner.ask(target, method, b"New" if method == "PUT" else b"")[0] == code)
         scene.check(f"pages: {name}", site.comes("docs_pages", count), site.counted())
+        edits += method != "GET"
+        scene.check(f"pages: {name}: edits", site.counted()[("docs_edits_total",)] == edits, site.counted())
         listed = set(re.findall(rb'href="(/page/[^"#]*)', owner.ask("/contents")[2]))
         scene.check(f"pages: {name}: as an owner sees them", len(listed) == count, listed)
     scene.check("pages: no journal", site.counted()[("docs_journal_bytes",)] == 0)

@@ -30,6 +30,7 @@ abbrev much_counted : Counters
 much_counted = record {
   replies = record { successful = 18446744073709551615; redirected = 2; refused = 3; failed = 4 };
   unauthorized = 1;
+  edits = 5;
   bytes = 6;
   connections = 7;
   connections_most = 8;
@@ -67,7 +68,7 @@ head_of_health counters = refl
 -- ---- metrics
 
 metrics_of_nothing : status_reply (codes "GET /metrics HTTP/1.1") nothing_counted
-    ≡ Some (codes "HTTP/1.1 200 OK\r\nContent-Type: text/plain; version=0.0.4; charset=utf-8\r\nContent-Length: 1474\r\n"
+    ≡ Some (codes "HTTP/1.1 200 OK\r\nContent-Type: text/plain; version=0.0.4; charset=utf-8\r\nContent-Length: 1587\r\n"
     ++ codes "Connection: close\r\n\r\n"
     ++ codes "# HELP docs_requests_total Requests that were answered, by the class of the code.\n"
     ++ codes "# TYPE docs_requests_total counter\ndocs_requests_total{class=\"2xx\"} 0\n"
@@ -75,6 +76,8 @@ metrics_of_nothing : status_reply (codes "GET /metrics HTTP/1.1") nothing_counte
     ++ codes "docs_requests_total{class=\"5xx\"} 0\n"
     ++ codes "# HELP docs_unauthorized_total Requests that were answered 401.\n"
     ++ codes "# TYPE docs_unauthorized_total counter\ndocs_unauthorized_total 0\n"
+    ++ codes "# HELP docs_edits_total Edits that were answered, 201 or 204.\n"
+    ++ codes "# TYPE docs_edits_total counter\ndocs_edits_total 0\n"
     ++ codes "# HELP docs_bytes_total Bytes of replies.\n# TYPE docs_bytes_total counter\ndocs_bytes_total 0\n"
     ++ codes "# HELP docs_connections Connections that stand.\n# TYPE docs_connections gauge\ndocs_connections 0\n"
     ++ codes "# HELP docs_connections_most Connections that stood at once at most.\n"
@@ -94,7 +97,7 @@ unfolding computing
 metrics_of_nothing = refl
 
 metrics_of_all : status_reply (codes "GET /metrics HTTP/1.1") much_counted
-    ≡ Some (codes "HTTP/1.1 200 OK\r\nContent-Type: text/plain; version=0.0.4; charset=utf-8\r\nContent-Length: 1511\r\n"
+    ≡ Some (codes "HTTP/1.1 200 OK\r\nContent-Type: text/plain; version=0.0.4; charset=utf-8\r\nContent-Length: 1624\r\n"
     ++ codes "Connection: close\r\n\r\n"
     ++ codes "# HELP docs_requests_total Requests that were answered, by the class of the code.\n"
     ++ codes "# TYPE docs_requests_total counter\ndocs_requests_total{class=\"2xx\"} 18446744073709551615\n"
@@ -102,6 +105,8 @@ metrics_of_all : status_reply (codes "GET /metrics HTTP/1.1") much_counted
     ++ codes "docs_requests_total{class=\"5xx\"} 4\n"
     ++ codes "# HELP docs_unauthorized_total Requests that were answered 401.\n"
     ++ codes "# TYPE docs_unauthorized_total counter\ndocs_unauthorized_total 1\n"
+    ++ codes "# HELP docs_edits_total Edits that were answered, 201 or 204.\n"
+    ++ codes "# TYPE docs_edits_total counter\ndocs_edits_total 5\n"
     ++ codes "# HELP docs_bytes_total Bytes of replies.\n# TYPE docs_bytes_total counter\ndocs_bytes_total 6\n"
     ++ codes "# HELP docs_connections Connections that stand.\n# TYPE docs_connections gauge\ndocs_connections 7\n"
     ++ codes "# HELP docs_connections_most Connections that stood at once at most.\n"
@@ -121,7 +126,7 @@ unfolding computing
 metrics_of_all = refl
 
 head_of_metrics : status_reply (codes "HEAD /metrics HTTP/1.1") much_counted
-    ≡ Some (codes "HTTP/1.1 200 OK\r\nContent-Type: text/plain; version=0.0.4; charset=utf-8\r\nContent-Length: 1511\r\n"
+    ≡ Some (codes "HTTP/1.1 200 OK\r\nContent-Type: text/plain; version=0.0.4; charset=utf-8\r\nContent-Length: 1624\r\n"
     ++ codes "Connection: close\r\n\r\n")
 unfolding computing
 head_of_metrics = refl
@@ -557,8 +562,12 @@ the_last_code_of_a_class = refl
 a_code_of_no_class : replies_with 199 no_replies ≡ no_replies
 a_code_of_no_class = refl
 
-counts_stand_still : after_reply 204 18446744073709551615 much_counted ≡ record much_counted { bytes = 18446744073709551615 }
+counts_stand_still : after_reply 200 18446744073709551615 much_counted ≡ record much_counted { bytes = 18446744073709551615 }
 counts_stand_still = refl
+
+edits_are_counted : (after_reply 201 0 much_counted ≡ record much_counted { edits = 6 })
+    × (after_reply 204 0 much_counted ≡ record much_counted { edits = 6 }) × (after_reply 202 0 much_counted ≡ much_counted)
+edits_are_counted = (refl, refl, refl)
 
 one_more_connection : after_join much_counted ≡ record much_counted { connections = 8 }
 one_more_connection = refl

@@ -1,5 +1,5 @@
 -- What the server counts.
-use Rattle.std.specs.Prelude.{ℕ, ◌+◌, ◌/◌, ◌==◌, None, if◌then◌else◌, max, min}
+use Rattle.std.specs.Prelude.{ℕ, ◌+◌, ◌/◌, ◌==◌, ◌||◌, None, if◌then◌else◌, max, min}
 use Rattle.doc_server_status.specs.declared.counters.Counters.{Counters}
 use Rattle.doc_server_status.specs.declared.replies.Replies.{Replies}
 use Rattle.doc_server_status.specs.declared.standing.Standing.{Standing}
@@ -25,6 +25,7 @@ abbrev pub nothing_counted : Counters
 nothing_counted = record {
   replies = no_replies;
   unauthorized = 0;
+  edits = 0;
   bytes = 0;
   connections = 0;
   connections_most = 0;
@@ -45,6 +46,7 @@ abbrev pub after_reply : ℕ → ℕ → Counters → Counters
 after_reply code bytes counters = record counters {
   replies = replies_with code counters.replies;
   unauthorized = plus counters.unauthorized (if code == 401 then 1 else 0);
+  edits = plus counters.edits (if (code == 201) || (code == 204) then 1 else 0);
   bytes = plus counters.bytes bytes;
 }
 

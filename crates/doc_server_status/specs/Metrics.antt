@@ -29,6 +29,7 @@ requests_metric replies =
 unfoldable pub reply_metrics : Counters → List ℕ
 reply_metrics counters =
     metric (codes "counter") (codes "docs_unauthorized_total") (codes "Requests that were answered 401.") counters.unauthorized
+    ++ metric (codes "counter") (codes "docs_edits_total") (codes "Edits that were answered, 201 or 204.") counters.edits
     ++ metric (codes "counter") (codes "docs_bytes_total") (codes "Bytes of replies.") counters.bytes
 
 unfoldable pub connection_metrics : Counters → List ℕ

@@ -12,6 +12,8 @@ pub struct Counters {
     pub replies: Replies,
     /// Replies 401.
     pub unauthorized: u64,
+    /// Replies 201 and 204, by which edits are answered, and nothing else is.
+    pub edits: u64,
     /// Bytes of replies.
     pub bytes: u64,
     /// Connections that stand.
@@ -32,6 +34,7 @@ impl Counters {
         Counters {
             replies: Replies::NONE,
             unauthorized: 0,
+            edits: 0,
             bytes: 0,
             connections: 0,
             connections_most: 0,
@@ -46,6 +49,9 @@ impl Counters {
     {
         self.replies = self.replies.with(code);
         self.unauthorized = self.unauthorized.saturating_add(one_where(code == 401));
+        self.edits = self
+            .edits
+            .saturating_add(one_where(code == 201 || code == 204));
         self.bytes = self.bytes.saturating_add(bytes as u64);
     }
 

@@ -104,6 +104,13 @@ fn push_replies(out: &mut String, counters: &Counters) -> Result<(), Memory>
     push_metric(
         out,
         "counter",
+        "docs_edits_total",
+        "Edits that were answered, 201 or 204.",
+        counters.edits,
+    )?;
+    push_metric(
+        out,
+        "counter",
         "docs_bytes_total",
         "Bytes of replies.",
         counters.bytes,

@@ -5,5 +5,5 @@ use Rattle.doc_server_status.proofs.metrics.push_replies.Goals as goal
 pub returns : goal.returns
 unfolding reply_metrics
 returns c =
-    rw (c.in_ok-push_metric-2.ensures, c.in_ok-push_metric.ensures)
+    rw (c.in_ok-push_metric-3.ensures, c.in_ok-push_metric-2.ensures, c.in_ok-push_metric.ensures)
     (simp append_assoc)
