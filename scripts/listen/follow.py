@@ -679,6 +679,36 @@ def reloads():
     journal.close()
 
 
+def as_often_as_said():
+    """`follow_millis` says how often the file is looked at while nobody asks, as the wakes of the process show; whoever asks sees each edit."""
+    put("site.toml", SITE)
+    writer = scene.listen("site.toml", journal="journal")
+    owner = Client(writer.port, "tok")
+    for millis, least, most in ((5, 100, 260), (20, 30, 70), (200, 3, 15), (10_000, 2, 15)):
+        put("own.toml", SITE + f"[listen]\nfollow_millis = {millis}\n")
+        follower = follow(config="own.toml")
+        reader = Client(follower.port, "tok")
+        time.sleep(0.5)
+        before = wakes(follower)
+        time.sleep(1)
+        count = wakes(follower) - before
+        scene.check(f"follow_millis {millis}: wakes", least <= count <= most, count)
+        for number in range(5):
+            owner.ask("/page/often.md", "PUT", f"{millis} {number}".encode())
+            begun = time.monotonic()
+            found = reader.ask("/page/often.md")
+            scene.check(f"follow_millis {millis}: an edit is seen", found[2] == page_of("often.md", f"{millis} {number}"), found)
+            scene.check(f"follow_millis {millis}: at once", time.monotonic() - begun < 0.15)
+        silent(follower, f"follow_millis {millis}")
+    scene.ends(writer, "follow_millis: the writer")
+
+
+def wakes(server):
+    """How often a process has waited."""
+    with open(f"/proc/{server.process.pid}/status", encoding="utf-8") as file:
+        return int(re.search(r"^voluntary_ctxt_switches:\s*(\d+)$", file.read(), re.M)[1])
+
+
 def logged():
     """With the log a follower says its lines, and nothing else."""
     put("site.toml", SITE)
@@ -702,7 +732,7 @@ def logged():
 def main():
     count = scene.numbers[0]
     for it, given in ((faults, ()), (refused, ()), (alike, (10_000,)), (at_once, (1_000,)), (never_back, (2_000,)), (cut, (20,)), (went_back, ()),
-                      (started_over_later, ()), (records_refused, ()), (reloads, ()), (logged, ()), (compacted, (10,)), (damaged, (40,)),
+                      (started_over_later, ()), (records_refused, ()), (reloads, ()), (as_often_as_said, ()), (logged, ()), (compacted, (10,)), (damaged, (40,)),
                       (promoted, (10,)), (kills, (count,))):
         for name in ("journal", "journal.torn"):
             if os.path.exists(name):

@@ -79,6 +79,7 @@ LISTEN_FAULTS = {"connections = 0": "`connections` must be an integer from 1 to 
                  "media_bytes = 1.0": "`media_bytes` must be an integer from 1 to 1073741824",
                  "stranger_seconds = 0": "`stranger_seconds` must be an integer from 1 to 86400",
                  'request_seconds = "60"': "`request_seconds` must be an integer from 1 to 86400",
+                 "follow_millis = 10001": "`follow_millis` must be an integer from 1 to 10000",
                  "connection = 1": "unknown key `connection`: is `connections` meant?", "far_away = 1": "unknown key `far_away`"}
 BROWSE_FAULTS = {"title = 1": "`title` must be a string", 'title = ""': "`title` is bad", 'language = "e"': "`language` is bad",
                  'home = "../a"': "`home` is bad", 'guest = ["A"]': '`guest`: "A" is no name of a group',

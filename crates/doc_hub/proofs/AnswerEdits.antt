@@ -7,11 +7,11 @@ use Rattle.doc_http_replies.specs.Heads.{Dress}
 use Rattle.doc_media.specs.Media.{Beside, Media, beside_of}
 use Rattle.doc_hub_replies.proofs.MediaLaws.{media_edit_nothing}
 use Rattle.doc_hub_replies.specs.MediaAnswers.{MediaResponse, media_answer, media_response}
-use Rattle.doc_hub_answers.proofs.AnswerEdits.{response_can}
-use Rattle.doc_hub_answers.specs.Edits.{CanBeMade, puts_taken}
-use Rattle.doc_hub_answers.specs.Replies.{Renders, Response, plain_answer, refused, response_to}
-use Rattle.doc_hub_answers.specs.declared.answer.Answer.{Answer}
-use Rattle.doc_hub_answers.specs.declared.edit.Edit.{Edit}
+use Rattle.doc_hub_replies.proofs.AnswerEdits.{response_can}
+use Rattle.doc_hub_replies.specs.Edits.{CanBeMade, puts_taken}
+use Rattle.doc_hub_replies.specs.Replies.{Renders, Response, plain_answer, refused, response_to}
+use Rattle.doc_hub_replies.specs.Answer.{Answer}
+use Rattle.doc_hub_replies.specs.Edit.{Edit}
 use Rattle.doc_hub_replies.proofs.EditsCan.{EditingCan, edit_response_can}
 use Rattle.doc_hub_replies.specs.EditAnswers.{edit_response}
 use Rattle.doc_hub_replies.specs.EditResponses.{EditingResponse}

@@ -19,14 +19,14 @@ use Rattle.doc_http_targets.specs.WrittenPaths.{path_written}
 use Rattle.doc_people.specs.KeptPaths.{is_kept}
 use Rattle.doc_people.specs.declared.settings.Browse.{Browse}
 use Rattle.doc_people.specs.declared.settings.Offers.{Offers}
-use Rattle.doc_hub_answers.specs.Replies.{Renders, Response, status_reply}
-use Rattle.doc_hub_answers.specs.Replies as plain
-use Rattle.doc_hub_answers.specs.Replies.{method_of, reads, response_to}
-use Rattle.doc_hub_answers.specs.declared.edit.Edit.{Edit}
-use Rattle.doc_hub_answers.specs.declared.edit.Edit.TheVariants as edits
-use Rattle.doc_hub_answers.specs.declared.method.Method.{Method}
-use Rattle.doc_hub_answers.specs.declared.method.Method.TheVariants.{Get, Head, Put, Delete, Post, Other}
-use Rattle.doc_hub_answers.proofs.OwnerSteps.{owner_page}
+use Rattle.doc_hub_replies.specs.Replies.{Renders, Response, status_reply}
+use Rattle.doc_hub_replies.specs.Replies as plain
+use Rattle.doc_hub_replies.specs.Replies.{method_of, reads, response_to}
+use Rattle.doc_hub_replies.specs.Edit.{Edit}
+use Rattle.doc_hub_replies.specs.Edit.TheVariants as edits
+use Rattle.doc_hub_replies.specs.Method.{Method}
+use Rattle.doc_hub_replies.specs.Method.TheVariants.{Get, Head, Put, Delete, Post, Other}
+use Rattle.doc_hub_replies.proofs.OwnerSteps.{owner_page}
 use Rattle.doc_hub_asking.specs.Asking.{Asking, row_of}
 use Rattle.doc_hub_asking.specs.Asking as asked
 use Rattle.doc_hub_replies.specs.PeopleAnswers.{offers_for}
@@ -38,7 +38,7 @@ use Rattle.doc_hub_replies.specs.EditAnswers.{begins_path, by_entry, by_other, b
 use Rattle.doc_hub_replies.specs.EditAnswers.{move_done, move_named, move_page, new_form, no_alias_room, no_room, not_found, open_form}
 use Rattle.doc_hub_replies.specs.EditAnswers.{page_of, preview_at, put_at, put_done, put_page, put_text, read_source, regroup_done}
 use Rattle.doc_hub_replies.specs.EditAnswers.{regroup_named, regroup_page, remove_page, response_if, source_or_goal}
-use Rattle.doc_hub_answers.specs.Edits.{puts_taken}
+use Rattle.doc_hub_replies.specs.Edits.{puts_taken}
 use Rattle.doc_hub_replies.specs.Answers.{answer_beside, answer_by, answer_of, asks_for_style, dress_by, dress_for, edited_or}
 use Rattle.doc_hub_replies.specs.Answers.{is_for_people}
 use Rattle.doc_hub_replies.specs.Answers.{media_or, style_answer, unedited}

@@ -21,9 +21,9 @@ use Rattle.doc_store.specs.declared.store.EditError.{EditError}
 use Rattle.doc_store.specs.declared.store.EditError.TheVariants as edit_errors
 use Rattle.doc_store.proofs.StoreSteps.{get-without_goal, taken_out}
 use Rattle.doc_media.specs.Media.{Media, media_visible_to, site_of_media}
-use Rattle.doc_hub_answers.specs.Edits.{regrouped, store_after}
-use Rattle.doc_hub_answers.specs.declared.edit.Edit.{Edit}
-use Rattle.doc_hub_answers.specs.declared.edit.Edit.TheVariants as edits
+use Rattle.doc_hub_replies.specs.Edits.{regrouped, store_after}
+use Rattle.doc_hub_replies.specs.Edit.{Edit}
+use Rattle.doc_hub_replies.specs.Edit.TheVariants as edits
 use Rattle.doc_hub.specs.Worlds.{IsApart, are_apart, has_medium}
 
 -- a put that is not refused is at the path of no medium, and fits in the store

@@ -4,7 +4,7 @@ use Rattle.std.specs.Prelude.{◌||◌, Some, None, Result, Ok, Err, nat_lt, if�
 use Rattle.std.specs.FinMap as map
 use Rattle.std.specs.List.{list_any}
 use Rattle.doc_page_parts.specs.Refusals.{Gives}
-use Rattle.doc_shelf.specs.Shelves.{rendered_for}
+use Rattle.doc_hub_replies.specs.Shelves.{rendered_for}
 use Rattle.doc_store_readers.specs.Pages.{Page}
 use Rattle.doc_store.specs.Store.{StoreState, move_page, moved_by, put_by, remove_page, set_page}
 use Rattle.doc_store.specs.declared.moving.MoveError.{MoveError}
@@ -14,10 +14,10 @@ use Rattle.doc_store.specs.declared.store.EditError.TheVariants as edit_errors
 use Rattle.doc_store.specs.declared.store.Put.{Put}
 use Rattle.doc_store.proofs.StoreSteps.{taken_out}
 use Rattle.doc_hub.specs.Counts.{AllTally, Counted, CountedAll, CountsFor, CountsOn, CountsSite, Previews, Tallies, moves_in_edit, ran_out}
-use Rattle.doc_hub_answers.specs.Counts.{RendersPuts}
+use Rattle.doc_hub_replies.specs.Counts.{RendersPuts}
 use Rattle.doc_hub.specs.EditLaws.{Makes, made_if}
 use Rattle.doc_hub_events.specs.Events.{Said, SaidOn, SaidSite, moving, outcome_of, outcome_of_site, outcome_on, putting}
-use Rattle.doc_hub_answers.specs.Replies.{Renders}
+use Rattle.doc_hub_replies.specs.Replies.{Renders}
 use Rattle.doc_hub.specs.Runs.{Happened, Happens, HappensOn, HappensSite, Leaves, nothing}
 use Rattle.doc_hub.specs.Worlds.{World, connected, last_id, may_move_beside, may_put, store_of, with_store, world_pushed}
 use Rattle.doc_hub_events.specs.declared.event.ConnId.{ConnId}

@@ -11,13 +11,13 @@ use Rattle.doc_people.specs.declared.settings.Browse.{Browse}
 use Rattle.doc_people.specs.declared.settings.Settings.{Settings}
 use Rattle.doc_store_readers.specs.Sites.{View, page_at, view_of}
 use Rattle.doc_store_readers.specs.declared.reader.Reader.{Reader}
-use Rattle.doc_hub_answers.proofs.OwnerSteps.{owner_page}
-use Rattle.doc_hub_answers.specs.Edits.{puts_taken}
-use Rattle.doc_hub_answers.specs.Replies as plain
-use Rattle.doc_hub_answers.specs.Replies.{Renders, Response, edit_page, method_of, on_route, only_reply, reads, reply_at, response_to}
-use Rattle.doc_hub_answers.specs.declared.edit.Edit.{Edit}
-use Rattle.doc_hub_answers.specs.declared.method.Method.{Method}
-use Rattle.doc_hub_answers.specs.declared.method.Method.TheVariants.{Get, Head, Put, Delete, Post, Other}
+use Rattle.doc_hub_replies.proofs.OwnerSteps.{owner_page}
+use Rattle.doc_hub_replies.specs.Edits.{puts_taken}
+use Rattle.doc_hub_replies.specs.Replies as plain
+use Rattle.doc_hub_replies.specs.Replies.{Renders, Response, edit_page, method_of, on_route, only_reply, reads, reply_at, response_to}
+use Rattle.doc_hub_replies.specs.Edit.{Edit}
+use Rattle.doc_hub_replies.specs.Method.{Method}
+use Rattle.doc_hub_replies.specs.Method.TheVariants.{Get, Head, Put, Delete, Post, Other}
 use Rattle.doc_hub_editing_refusals.specs.Asked.{EditRequest}
 use Rattle.doc_hub_replies.proofs.EditingLaws.{edits_are_of_what_was_named, nothing_is_replaced_unasked, owners_alone}
 use Rattle.doc_hub_replies.specs.EditAnswers.{by_entry, edit_response, response_if}
@@ -28,7 +28,7 @@ use Rattle.doc_hub_asking.specs.Asking as asked
 use Rattle.doc_media.specs.Media.{Beside, beside_of}
 use Rattle.doc_http_replies.specs.Heads.{Dress}
 use Rattle.doc_hub_replies.specs.MediaAnswers.{MediaResponse, media_answer, media_response}
-use Rattle.doc_hub_answers.specs.declared.answer.Answer.{Answer}
+use Rattle.doc_hub_replies.specs.Answer.{Answer}
 use Rattle.doc_hub_replies.specs.Answers.{answer_by, answer_of, dress_by, dress_for, edited_or, media_or, is_for_people, style_answer}
 use Rattle.doc_hub_replies.specs.Answers.{asks_for_style, unedited}
 use Rattle.doc_hub.specs.EditingLaws.{IsEditedBy, NamesWhatStood, NoPageIsReplacedUnasked, NoUpdateIsLost, ReplacesNothing}

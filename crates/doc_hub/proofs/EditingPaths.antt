@@ -16,8 +16,8 @@ use Rattle.doc_http_targets.specs.WrittenPaths.{path_written}
 use Rattle.doc_media.specs.Media.{Beside}
 use Rattle.doc_people.specs.declared.settings.Browse.{Browse}
 use Rattle.doc_people.specs.declared.settings.Offers.{Offers}
-use Rattle.doc_hub_answers.specs.Replies.{Renders, status_reply}
-use Rattle.doc_hub_answers.specs.declared.edit.Edit.TheVariants as edits
+use Rattle.doc_hub_replies.specs.Replies.{Renders, status_reply}
+use Rattle.doc_hub_replies.specs.Edit.TheVariants as edits
 use Rattle.doc_hub_asking.specs.Asking.{Asking}
 use Rattle.doc_hub_asking.specs.Asking as asked
 use Rattle.doc_hub_replies.specs.PeopleAnswers.{offers_for}

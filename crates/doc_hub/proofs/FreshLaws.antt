@@ -23,11 +23,11 @@ use Rattle.doc_http.specs.declared.request.Next.{Next}
 use Rattle.doc_http.specs.declared.request.Next.TheVariants as nexts
 use Rattle.doc_http.proofs.LawLemmas.{read_in_one_way}
 use Rattle.doc_hub.specs.Connections.{Connections}
-use Rattle.doc_hub_answers.specs.Edits.{puts_left, puts_taken}
+use Rattle.doc_hub_replies.specs.Edits.{puts_left, puts_taken}
 use Rattle.doc_hub_events.specs.Events.{stepping, step_refusal}
 use Rattle.doc_hub.specs.FreshLaws.{LeavesPut, NewRepliesAsFresh, PutsAreLeft, RepliesAsFresh, SendsAsFresh, SendsAsFreshAlways, StepSays}
 use Rattle.doc_hub.specs.FreshLaws.{TakesPut, first_connection, fresh, fresh_for, only_reader}
-use Rattle.doc_hub_answers.specs.Replies.{Renders}
+use Rattle.doc_hub_replies.specs.Replies.{Renders}
 use Rattle.doc_hub.specs.Runs.{Happened, Leaves, Runs, nothing, first}
 use Rattle.doc_hub.specs.StepLaws.{Agree, AgreeOn, connection, is_owners_put, media_seen, open_with, site_seen}
 use Rattle.doc_hub.specs.Worlds.{World, Answers, StepsAt, asking_of, new_world, reader_of, stepped_by, token_of}

@@ -13,7 +13,7 @@ use Rattle.doc_hub.specs.Connections.{new_connection, pushed_at, pushed_onto, wi
 use Rattle.doc_hub_events.specs.Events.{Said, SaidOn}
 use Rattle.doc_hub.specs.ConnectionLaws.{NumbersAreGivenOnce}
 use Rattle.doc_hub.specs.StepLaws.{connection}
-use Rattle.doc_hub_answers.specs.Replies.{Renders}
+use Rattle.doc_hub_replies.specs.Replies.{Renders}
 use Rattle.doc_hub.specs.Runs.{Happens, HappensOn, Happened, Runs, nothing, first}
 use Rattle.doc_hub.specs.Worlds.{World, connected, world_pushed, answer_in, world_after}
 use Rattle.doc_hub.specs.Worlds.{stepped_by, Stays, Answers, StepsAt, last_id}

@@ -14,7 +14,7 @@ use Rattle.doc_store.specs.Store.{is_goal}
 use Rattle.doc_shelf_pages.specs.Templates.{body_of}
 use Rattle.doc_http.specs.declared.request.Request.{Request}
 use Rattle.doc_http.specs.declared.request.Next.TheVariants as nexts
-use Rattle.doc_hub_answers.specs.Replies.{link_shown}
+use Rattle.doc_hub_replies.specs.Replies.{link_shown}
 use Rattle.doc_hub.proofs.StepLaws.{answers_alike, same_beside, steps_alike}
 use Rattle.doc_hub.specs.HiddenLaws.{HiddenAsNone, HiddenMediumAsNone, IsHidden, IsHiddenMedium, LinksToHiddenAsToNone}
 use Rattle.doc_hub.specs.HiddenLaws.{LinksToHiddenMediaAsToNone, media_without, site_without, world_without, world_without_medium}

@@ -9,7 +9,7 @@ use Rattle.doc_store.specs.declared.site_edit.SiteEdit.TheVariants as site_edits
 use Rattle.doc_store.specs.declared.store.EditError.TheVariants as edit_errors
 use Rattle.doc_store_readers.specs.declared.readers.ReaderError.TheVariants as reader_errors
 use Rattle.doc_media.specs.Media.{Media}
-use Rattle.doc_hub_answers.specs.Replies.{Renders}
+use Rattle.doc_hub_replies.specs.Replies.{Renders}
 use Rattle.doc_hub_events.specs.Events.{Said, SaidReader, SaidSite}
 use Rattle.doc_hub.specs.Runs.{Happens, HappensReader, HappensSite}
 use Rattle.doc_hub.specs.Worlds.{World, are_apart, world_media_set, world_moved, world_put, world_reader_removed, world_reader_set}

@@ -31,7 +31,7 @@ use Rattle.doc_hub_events.specs.Events.{connecting, moving, push_on, pushing, pu
 use Rattle.doc_hub_events.specs.declared.event.Event.TheVariants as events
 use Rattle.doc_hub.specs.FreshLaws.{only_reader}
 use Rattle.doc_hub.specs.MadeLaws.{FreshIsMade, IsMaking, makings}
-use Rattle.doc_hub_answers.specs.Replies.{Renders}
+use Rattle.doc_hub_replies.specs.Replies.{Renders}
 use Rattle.doc_hub.specs.Runs.{Happened, Leaves, Runs, nothing}
 use Rattle.doc_hub.specs.StepLaws.{open_with}
 use Rattle.doc_hub.specs.Worlds.{IsApart, World, has_medium, last_id, may_move_beside, new_world, store_of, with_store}

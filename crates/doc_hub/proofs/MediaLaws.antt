@@ -17,10 +17,10 @@ use Rattle.doc_store.specs.declared.store.EditError.TheVariants as edit_errors
 use Rattle.doc_media.specs.Media.{Media}
 use Rattle.doc_http.specs.declared.request.Next.{Next}
 use Rattle.doc_http.specs.declared.request.Next.TheVariants as nexts
-use Rattle.doc_hub_answers.specs.Edits.{CanBeMade}
-use Rattle.doc_hub_answers.specs.Replies.{Renders}
-use Rattle.doc_hub_answers.specs.declared.edit.Edit.{Edit}
-use Rattle.doc_hub_answers.specs.declared.edit.Edit.TheVariants as edits
+use Rattle.doc_hub_replies.specs.Edits.{CanBeMade}
+use Rattle.doc_hub_replies.specs.Replies.{Renders}
+use Rattle.doc_hub_replies.specs.Edit.{Edit}
+use Rattle.doc_hub_replies.specs.Edit.TheVariants as edits
 use Rattle.doc_hub_events.specs.Events.{Said, SaidOn, SaidSite}
 use Rattle.doc_hub_events.specs.declared.event.ConnectionEvent.{ConnectionEvent}
 use Rattle.doc_hub_events.specs.declared.event.ConnectionEvent.TheVariants as calls

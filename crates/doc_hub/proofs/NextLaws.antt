@@ -23,7 +23,7 @@ use Rattle.doc_hub_events.specs.declared.refusal.PushError.{PushError}
 use Rattle.doc_hub_events.specs.declared.refusal.PushError.TheVariants as push_errors
 use Rattle.doc_hub_events.specs.declared.refusal.StepError.{StepError}
 use Rattle.doc_hub_events.specs.declared.refusal.StepError.TheVariants as step_errors
-use Rattle.doc_hub_answers.specs.Replies.{Renders}
+use Rattle.doc_hub_replies.specs.Replies.{Renders}
 use Rattle.doc_hub.specs.Worlds.{World, connected, world_pushed, disconnected, stepped_by, Stays, Answers, StepsAt, last_id}
 use Rattle.doc_hub.specs.Runs.{HappensOn, Leaves, IsOutOfMemory}
 

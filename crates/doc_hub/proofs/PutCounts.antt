@@ -13,10 +13,10 @@ use Rattle.doc_store.proofs.StoreSteps.{taken_out}
 use Rattle.doc_http.specs.declared.request.Next.{Next}
 use Rattle.doc_http.specs.declared.request.Next.TheVariants as nexts
 use Rattle.doc_hub.specs.Connections.{new_connection}
-use Rattle.doc_hub_answers.specs.Edits.{regrouped, store_after}
+use Rattle.doc_hub_replies.specs.Edits.{regrouped, store_after}
 use Rattle.doc_hub_events.specs.Events.{Said, SaidOn, SaidSite}
 use Rattle.doc_hub.specs.FreshLaws.{PutsAreCounted}
-use Rattle.doc_hub_answers.specs.Replies.{Renders}
+use Rattle.doc_hub_replies.specs.Replies.{Renders}
 use Rattle.doc_hub.specs.Runs.{Happens, HappensOn, HappensSite, Leaves, nothing, first}
 use Rattle.doc_hub.specs.Worlds.{World, Answers, Stays, StepsAt, answer_in, connected, last_id, stepped_by, store_of, world_moved}
 use Rattle.doc_hub.specs.Worlds.{may_move_beside, may_put, world_pushed, world_put}
@@ -37,8 +37,8 @@ use Rattle.doc_hub_events.specs.declared.refusal.ConnectError.TheVariants as con
 use Rattle.doc_hub_events.specs.declared.refusal.PushError.TheVariants as push_errors
 use Rattle.doc_hub_events.specs.declared.refusal.StepError.{StepError}
 use Rattle.doc_hub_events.specs.declared.refusal.StepError.TheVariants as step_errors
-use Rattle.doc_hub_answers.specs.declared.edit.Edit.{Edit}
-use Rattle.doc_hub_answers.specs.declared.edit.Edit.TheVariants as edits
+use Rattle.doc_hub_replies.specs.Edit.{Edit}
+use Rattle.doc_hub_replies.specs.Edit.TheVariants as edits
 
 -- at most one more
 abbrev OneMore : ℕ → ℕ → Type 0

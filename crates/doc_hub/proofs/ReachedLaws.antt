@@ -22,11 +22,11 @@ use Rattle.doc_http.specs.declared.request.Next.{Next}
 use Rattle.doc_http.specs.declared.request.Next.TheVariants as nexts
 use Rattle.doc_hub_asking.specs.Asking.{known_of}
 use Rattle.doc_hub.specs.Connections.{Connections, backlog_limit, finished, new_connection, pushed_at, with_pushed}
-use Rattle.doc_hub_answers.specs.Edits.{CanBeMade, CanMove, CanRegroup, regrouped, store_after}
+use Rattle.doc_hub_replies.specs.Edits.{CanBeMade, CanMove, CanRegroup, regrouped, store_after}
 use Rattle.doc_hub_events.specs.Events.{Said, SaidOn, SaidSite}
 use Rattle.doc_hub.specs.FreshLaws.{SendsAsFreshAlways}
 use Rattle.doc_hub.specs.MadeLaws.{IsWithin, MadeReplies, SendsAsMade, makings}
-use Rattle.doc_hub_answers.specs.Replies.{Renders}
+use Rattle.doc_hub_replies.specs.Replies.{Renders}
 use Rattle.doc_hub.specs.Runs.{Happens, HappensOn, HappensSite, Happened, Runs, nothing, first}
 use Rattle.doc_hub.specs.StepLaws.{media_seen, open_with, site_seen}
 use Rattle.doc_hub.specs.Worlds.{IsApart, World, Answers, Stays, StepsAt, answer_in, asking_of, connected, disconnected, has_medium}
@@ -49,8 +49,8 @@ use Rattle.doc_hub_events.specs.declared.refusal.PushError.{PushError}
 use Rattle.doc_hub_events.specs.declared.refusal.PushError.TheVariants as push_errors
 use Rattle.doc_hub_events.specs.declared.refusal.StepError.{StepError}
 use Rattle.doc_hub_events.specs.declared.refusal.StepError.TheVariants as step_errors
-use Rattle.doc_hub_answers.specs.declared.edit.Edit.{Edit}
-use Rattle.doc_hub_answers.specs.declared.edit.Edit.TheVariants as edits
+use Rattle.doc_hub_replies.specs.Edit.{Edit}
+use Rattle.doc_hub_replies.specs.Edit.TheVariants as edits
 use Rattle.doc_hub.proofs.AnswerEdits.{answer_can_be_made}
 use Rattle.doc_hub.proofs.Apart.{move_is_free, put_is_free, seen_apart}
 use Rattle.doc_hub.proofs.MediaLaws.{all_apart, none_apart}

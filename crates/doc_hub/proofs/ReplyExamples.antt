@@ -33,8 +33,8 @@ use Rattle.doc_links_pages.specs.Links.{backlinks, broken, contents}
 use Rattle.doc_media_links.specs.Images.{broken_images}
 use Rattle.doc_listings.specs.Listings.{backlinks_text, entry_lines, heading_line, report_text}
 use Rattle.doc_hub.specs.Connections.{pushed_onto, finished, backlog_limit}
-use Rattle.doc_hub_answers.specs.Edits.{puts_taken}
-use Rattle.doc_hub_answers.specs.Replies.{Renders, fault_bytes}
+use Rattle.doc_hub_replies.specs.Edits.{puts_taken}
+use Rattle.doc_hub_replies.specs.Replies.{Renders, fault_bytes}
 use Rattle.doc_hub_asking.specs.Asking.{known_by}
 use Rattle.doc_hub_replies.specs.MediaAnswers.{media_response}
 use Rattle.doc_hub_replies.specs.Answers.{answer_of}
@@ -45,11 +45,11 @@ use Rattle.doc_hub.specs.Worlds.{World, asking_of, plain_settings, reader_of}
 use Rattle.doc_http_targets.specs.Queries.{value_of}
 use Rattle.doc_http_targets.specs.Targets.{origin_form, route_of}
 use Rattle.doc_http_targets.specs.WrittenPaths.{path_written}
-use Rattle.doc_hub_answers.specs.declared.answer.Answer.{Answer}
+use Rattle.doc_hub_replies.specs.Answer.{Answer}
 use Rattle.doc_hub.specs.declared.connection.Connection.{Connection}
 use Rattle.doc_hub_events.specs.declared.refusal.PushError.TheVariants.{Closed}
-use Rattle.doc_hub_answers.specs.declared.edit.Edit.{Edit}
-use Rattle.doc_hub_answers.specs.declared.edit.Edit.TheVariants as edits
+use Rattle.doc_hub_replies.specs.Edit.{Edit}
+use Rattle.doc_hub_replies.specs.Edit.TheVariants as edits
 
 -- one name to unfold where an example computes
 unfoldable computing : Unit {0}

@@ -1,7 +1,7 @@
 -- Runs, one event after another.
 use Rattle.std.proofs.Common.{◌≡◌, List, [], ◌∷◌, ◌++◌, map, refl, ap, sym, ◌∙◌, subst}
 use Rattle.doc_hub_events.specs.Events.{Said, outcome_of}
-use Rattle.doc_hub_answers.specs.Replies.{Renders}
+use Rattle.doc_hub_replies.specs.Replies.{Renders}
 use Rattle.doc_hub.specs.Runs.{Happens, Leaves, Happened, Runs, RunsAll, nothing, first}
 use Rattle.doc_hub.specs.Worlds.{World}
 use Rattle.doc_hub_events.specs.declared.event.Event.{Event}

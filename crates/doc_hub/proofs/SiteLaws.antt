@@ -15,9 +15,9 @@ use Rattle.doc_http.specs.Requests.{IsNext}
 use Rattle.doc_http.specs.declared.request.Next.{Next}
 use Rattle.doc_http.specs.declared.request.Next.TheVariants as nexts
 use Rattle.doc_hub.specs.EditLaws.{SiteIsOfEdits, Makes, StepMakes, edit_by, made_if, site_after, site_after_all, site_edit, with_groups}
-use Rattle.doc_hub_answers.specs.Edits.{CanBeMade, regrouped, store_after}
+use Rattle.doc_hub_replies.specs.Edits.{CanBeMade, regrouped, store_after}
 use Rattle.doc_hub_events.specs.Events.{Said, SaidOn, SaidSite, moving, outcome_of, outcome_of_site, outcome_on, putting, step_on, stepping}
-use Rattle.doc_hub_answers.specs.Replies.{Renders}
+use Rattle.doc_hub_replies.specs.Replies.{Renders}
 use Rattle.doc_hub.specs.Runs.{Happens, HappensOn, HappensSite, Leaves, nothing, first}
 use Rattle.doc_hub.specs.Worlds.{World, Answers, Stays, StepsAt, answer_in, asking_of, connected, last_id, stepped_by, store_of}
 use Rattle.doc_hub.specs.Worlds.{may_move_beside, may_put, world_moved, world_pushed, world_put}
@@ -37,8 +37,8 @@ use Rattle.doc_hub_events.specs.declared.refusal.ConnectError.TheVariants as con
 use Rattle.doc_hub_events.specs.declared.refusal.PushError.TheVariants as push_errors
 use Rattle.doc_hub_events.specs.declared.refusal.StepError.{StepError}
 use Rattle.doc_hub_events.specs.declared.refusal.StepError.TheVariants as step_errors
-use Rattle.doc_hub_answers.specs.declared.edit.Edit.{Edit}
-use Rattle.doc_hub_answers.specs.declared.edit.Edit.TheVariants as edits
+use Rattle.doc_hub_replies.specs.Edit.{Edit}
+use Rattle.doc_hub_replies.specs.Edit.TheVariants as edits
 use Rattle.doc_hub.proofs.AnswerEdits.{answer_can_be_made}
 use Rattle.doc_hub.proofs.KindSteps.{stand_beside}
 

@@ -10,11 +10,11 @@ use Rattle.doc_http.specs.Requests.{IsNext}
 use Rattle.doc_http.specs.declared.request.Request.{Request}
 use Rattle.doc_http.specs.declared.request.Next.{Next}
 use Rattle.doc_http.specs.declared.request.Next.TheVariants as nexts
-use Rattle.doc_hub_answers.specs.Counts.{RendersPuts, moves_of, previews_of}
-use Rattle.doc_hub_answers.specs.Replies.{Renders}
-use Rattle.doc_hub_answers.specs.declared.answer.Answer.{Answer}
-use Rattle.doc_hub_answers.specs.declared.edit.Edit.{Edit}
-use Rattle.doc_hub_answers.specs.declared.edit.Edit.TheVariants as edits
+use Rattle.doc_hub_replies.specs.Counts.{RendersPuts, moves_of, previews_of}
+use Rattle.doc_hub_replies.specs.Replies.{Renders}
+use Rattle.doc_hub_replies.specs.Answer.{Answer}
+use Rattle.doc_hub_replies.specs.Edit.{Edit}
+use Rattle.doc_hub_replies.specs.Edit.TheVariants as edits
 use Rattle.doc_hub_replies.specs.Answers.{shows_preview}
 use Rattle.doc_hub.specs.Counts.{Counted, StepPreviews, moves_in_edit, previews_by}
 use Rattle.doc_hub.specs.EditLaws.{StepMakes, edit_by, site_edit, with_groups}

@@ -12,18 +12,18 @@ use Rattle.doc_http.specs.declared.request.Request.{Request}
 use Rattle.doc_http.specs.declared.request.Next.{Next}
 use Rattle.doc_http.specs.declared.request.Next.TheVariants as nexts
 use Rattle.doc_http.proofs.LawLemmas.{read_in_one_way}
-use Rattle.doc_hub_answers.specs.Edits.{CanBeMade, CanRegroup, puts_taken, regrouped, store_after}
+use Rattle.doc_hub_replies.specs.Edits.{CanBeMade, CanRegroup, puts_taken, regrouped, store_after}
 use Rattle.doc_hub_replies.proofs.TakingLaws.{no_edit_is_made}
-use Rattle.doc_hub_answers.specs.Replies.{Renders}
+use Rattle.doc_hub_replies.specs.Replies.{Renders}
 use Rattle.doc_hub.specs.StepEdits.{Changes, NoStepEdits, StepTells, StepsChange, TellsAt, WasRegrouped, edit_of_step}
 use Rattle.doc_hub.specs.Worlds.{World, Answers, Stays, StepsAt, answer_in, asking_of, reader_of, stepped_by, store_of}
 use Rattle.doc_hub.specs.declared.connection.Connection.{Connection}
 use Rattle.doc_hub_events.specs.declared.event.Step.{Step}
 use Rattle.doc_hub_events.specs.declared.event.Step.TheVariants as steps
 use Rattle.doc_hub_events.specs.declared.refusal.StepError.{StepError}
-use Rattle.doc_hub_answers.specs.declared.answer.Answer.{Answer}
-use Rattle.doc_hub_answers.specs.declared.edit.Edit.{Edit}
-use Rattle.doc_hub_answers.specs.declared.edit.Edit.TheVariants as edits
+use Rattle.doc_hub_replies.specs.Answer.{Answer}
+use Rattle.doc_hub_replies.specs.Edit.{Edit}
+use Rattle.doc_hub_replies.specs.Edit.TheVariants as edits
 use Rattle.doc_hub.proofs.AnswersFree.{answer_stays_free}
 use Rattle.doc_hub.proofs.Apart.{StaysFree}
 use Rattle.doc_hub.proofs.AnswerEdits.{answer_can_be_made}

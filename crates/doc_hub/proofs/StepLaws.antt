@@ -15,16 +15,16 @@ use Rattle.doc_http.proofs.LawLemmas.{read_in_one_way}
 use Rattle.doc_http_replies.specs.Heads.{Dress, undressed}
 use Rattle.doc_http_targets.specs.Targets.{Route, route_of}
 use Rattle.doc_http_targets.specs.Targets as routes
-use Rattle.doc_hub_answers.specs.declared.answer.Answer.{Answer}
+use Rattle.doc_hub_replies.specs.Answer.{Answer}
 use Rattle.doc_hub.specs.declared.connection.Connection.{Connection}
 use Rattle.doc_hub_events.specs.declared.event.ReaderEdit.TheVariants as reader_edits
 use Rattle.doc_hub_events.specs.declared.event.Step.{Step}
-use Rattle.doc_hub_answers.specs.declared.method.Method.{Method}
-use Rattle.doc_hub_answers.specs.declared.method.Method.TheVariants.{Get, Head, Put, Delete, Post, Other}
+use Rattle.doc_hub_replies.specs.Method.{Method}
+use Rattle.doc_hub_replies.specs.Method.TheVariants.{Get, Head, Put, Delete, Post, Other}
 use Rattle.doc_hub_events.specs.declared.refusal.StepError.{StepError}
-use Rattle.doc_hub_answers.specs.Edits.{puts_taken}
-use Rattle.doc_hub_answers.specs.Replies.{Renders, Response, at_route, edit_at, edit_page, method_of, on_route, only_reply, plain_answer}
-use Rattle.doc_hub_answers.specs.Replies.{put_by, reads, refused, reply_at, response_to}
+use Rattle.doc_hub_replies.specs.Edits.{puts_taken}
+use Rattle.doc_hub_replies.specs.Replies.{Renders, Response, at_route, edit_at, edit_page, method_of, on_route, only_reply, plain_answer}
+use Rattle.doc_hub_replies.specs.Replies.{put_by, reads, refused, reply_at, response_to}
 use Rattle.doc_hub_asking.specs.Asking.{Asking, is_guest, row_of}
 use Rattle.doc_hub_replies.specs.EditAnswers.{edit_response}
 use Rattle.doc_hub_replies.specs.PeopleAnswers.{people_reply}

@@ -19,18 +19,18 @@ use Rattle.doc_http.specs.Requests.{IsNext}
 use Rattle.doc_http.specs.declared.request.Request.{Request}
 use Rattle.doc_http.specs.declared.request.Next.TheVariants as nexts
 use Rattle.doc_hub.specs.Connections.{Connections, finished}
-use Rattle.doc_hub_answers.specs.Edits.{regrouped, store_after}
-use Rattle.doc_hub_answers.specs.Replies.{Renders}
+use Rattle.doc_hub_replies.specs.Edits.{regrouped, store_after}
+use Rattle.doc_hub_replies.specs.Replies.{Renders}
 use Rattle.doc_hub.specs.Worlds.{Answers, Stays, Steps, StepsAt, World, answer_in, has_medium, step_said, stepped_by, with_finished}
 use Rattle.doc_hub.specs.Worlds.{with_store}
 use Rattle.doc_hub.specs.Worlds.{world_after, world_moved, world_put, world_removed}
-use Rattle.doc_hub_answers.specs.declared.answer.Answer.{Answer}
+use Rattle.doc_hub_replies.specs.Answer.{Answer}
 use Rattle.doc_hub.specs.declared.connection.Connection.{Connection}
 use Rattle.doc_hub_events.specs.declared.event.Step.{Step}
 use Rattle.doc_hub_events.specs.declared.event.Step.TheVariants as steps
 use Rattle.doc_hub_events.specs.declared.refusal.StepError.{StepError}
-use Rattle.doc_hub_answers.specs.declared.edit.Edit.{Edit}
-use Rattle.doc_hub_answers.specs.declared.edit.Edit.TheVariants as edits
+use Rattle.doc_hub_replies.specs.Edit.{Edit}
+use Rattle.doc_hub_replies.specs.Edit.TheVariants as edits
 
 -- without stamps
 abbrev bare : StoreState → StoreState

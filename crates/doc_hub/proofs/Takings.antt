@@ -5,7 +5,7 @@ use Rattle.std.specs.FinMap as map
 use Rattle.std.proofs.lemmas.List.Elements.{All-head, All-tail}
 use Rattle.doc_http.specs.declared.request.Next.{Next}
 use Rattle.doc_http.specs.declared.request.Next.TheVariants as nexts
-use Rattle.doc_hub_answers.specs.Replies.{Renders}
+use Rattle.doc_hub_replies.specs.Replies.{Renders}
 use Rattle.doc_hub_events.specs.Events.{Said, SaidOn}
 use Rattle.doc_hub_events.specs.declared.event.ConnectionEvent.{ConnectionEvent}
 use Rattle.doc_hub_events.specs.declared.event.ConnectionEvent.TheVariants as calls

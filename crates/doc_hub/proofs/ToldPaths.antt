@@ -5,9 +5,9 @@ use Rattle.doc_store_readers.specs.Sites.{view_of}
 use Rattle.doc_http.specs.Requests.{IsNext}
 use Rattle.doc_http.specs.declared.request.Next.{Next}
 use Rattle.doc_http.specs.declared.request.Next.TheVariants as nexts
-use Rattle.doc_hub_answers.specs.Edits.{puts_taken}
-use Rattle.doc_hub_answers.specs.Replies.{Renders}
-use Rattle.doc_hub_answers.specs.declared.edit.Edit.{Edit}
+use Rattle.doc_hub_replies.specs.Edits.{puts_taken}
+use Rattle.doc_hub_replies.specs.Replies.{Renders}
+use Rattle.doc_hub_replies.specs.Edit.{Edit}
 use Rattle.doc_hub_replies.specs.Answers.{is_for_people}
 use Rattle.doc_media.specs.Media.{beside_of}
 use Rattle.doc_hub.specs.StepEdits.{TellsAt, edit_of_step}

@@ -5,12 +5,12 @@ use Rattle.std.specs.FinMap as map
 use Rattle.doc_http.specs.Requests.{IsNext}
 use Rattle.doc_http.specs.declared.request.Next.{Next}
 use Rattle.doc_http.specs.declared.request.Next.TheVariants as nexts
-use Rattle.doc_hub_answers.specs.Counts.{RendersPuts, previews_of}
-use Rattle.doc_hub_answers.specs.Replies.{Renders}
+use Rattle.doc_hub_replies.specs.Counts.{RendersPuts, previews_of}
+use Rattle.doc_hub_replies.specs.Replies.{Renders}
 use Rattle.doc_store_readers.specs.Sites.{view_of}
 use Rattle.doc_media.specs.Media.{beside_of}
 use Rattle.doc_hub_replies.specs.Answers.{shows_preview}
-use Rattle.doc_shelf.specs.Shelves.{rendered_for}
+use Rattle.doc_hub_replies.specs.Shelves.{rendered_for}
 use Rattle.doc_store.specs.declared.site_edit.SiteEdit.{SiteEdit}
 use Rattle.doc_store.specs.declared.site_edit.SiteEdit.TheVariants as site_edits
 use Rattle.doc_hub.specs.EditLaws.{Makes}

@@ -11,8 +11,8 @@ use Rattle.doc_http_conditions.specs.declared.named.Named.TheVariants.{Any, OneO
 use Rattle.doc_people.specs.declared.settings.Browse.{Browse}
 use Rattle.doc_store_readers.specs.Pages.{Page}
 use Rattle.doc_store_tags.specs.Tags.{tag_of}
-use Rattle.doc_hub_answers.specs.Replies.{Renders}
-use Rattle.doc_hub_answers.specs.declared.edit.Edit.{Edit}
+use Rattle.doc_hub_replies.specs.Replies.{Renders}
+use Rattle.doc_hub_replies.specs.Edit.{Edit}
 use Rattle.doc_hub_replies.specs.EditLaws.{path_of_edit}
 use Rattle.doc_hub.specs.FreshLaws.{IsAnswered}
 use Rattle.doc_hub.specs.Runs.{Happened, Runs}

@@ -19,8 +19,8 @@ use Rattle.doc_hub_events.specs.declared.event.Step.{Step}
 use Rattle.doc_hub_events.specs.declared.outcome.Outcome.TheVariants as outcomes
 use Rattle.doc_hub_events.specs.declared.refusal.StepError.{StepError}
 use Rattle.doc_hub_events.specs.declared.refusal.StepError.TheVariants as step_errors
-use Rattle.doc_hub_answers.specs.Edits.{puts_left, puts_taken}
-use Rattle.doc_hub_answers.specs.Replies.{Renders}
+use Rattle.doc_hub_replies.specs.Edits.{puts_left, puts_taken}
+use Rattle.doc_hub_replies.specs.Replies.{Renders}
 use Rattle.doc_hub.specs.Runs.{Happens, Happened, Runs}
 use Rattle.doc_hub.specs.StepLaws.{connection, is_owners_put, media_seen, open_with, site_seen}
 use Rattle.doc_hub.specs.Worlds.{World, asking_of, new_world, reader_of, token_of}

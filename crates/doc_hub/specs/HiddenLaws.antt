@@ -10,7 +10,7 @@ use Rattle.doc_store.specs.Store.{effect_of, remove_page}
 use Rattle.doc_shelf_pages.specs.Templates.{body_of}
 use Rattle.doc_http.specs.declared.request.Request.{Request}
 use Rattle.doc_http.specs.declared.request.Next.TheVariants as nexts
-use Rattle.doc_hub_answers.specs.Replies.{Renders, link_shown}
+use Rattle.doc_hub_replies.specs.Replies.{Renders, link_shown}
 use Rattle.doc_hub_events.specs.declared.event.ConnId.{ConnId}
 use Rattle.doc_hub_events.specs.Events.{step_on}
 use Rattle.doc_hub_events.specs.declared.event.Step.{Step}

@@ -14,3 +14,18 @@ pub mod Runs
 pub mod StepEdits
 pub mod StepLaws
 pub mod Worlds
+-- words of the crates below, for the crates above
+pub use Rattle.doc_hub_asking.specs.Asking
+pub use Rattle.doc_hub_editing_refusals.specs.Asked
+pub use Rattle.doc_hub_replies.specs.Answers
+pub use Rattle.doc_hub_replies.specs.Edits
+pub use Rattle.doc_hub_replies.specs.Replies
+pub use Rattle.doc_hub_replies.specs.EditAnswers
+pub use Rattle.doc_hub_replies.specs.EditRequests
+pub use Rattle.doc_hub_replies.specs.EditResponses
+pub use Rattle.doc_hub_replies.specs.PeopleAnswers
+pub use Rattle.doc_hub_replies.specs.ServingSteps
+pub use Rattle.doc_hub_replies.specs.TakingEdits
+pub use Rattle.doc_hub_replies.specs.Answer
+pub use Rattle.doc_hub_replies.specs.Edit
+pub use Rattle.doc_hub_replies.specs.Method

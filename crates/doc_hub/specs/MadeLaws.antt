@@ -12,9 +12,9 @@ use Rattle.doc_people.specs.declared.settings.Settings.{Settings}
 use Rattle.doc_http.specs.declared.request.Request.{Request}
 use Rattle.doc_http.specs.declared.request.Next.TheVariants as nexts
 use Rattle.doc_hub.specs.Connections.{backlog_limit}
-use Rattle.doc_hub_answers.specs.Edits.{puts_left}
+use Rattle.doc_hub_replies.specs.Edits.{puts_left}
 use Rattle.doc_hub.specs.FreshLaws.{IsAnswered, StepSays, TakesPut, first_connection, fresh, fresh_for, only_reader}
-use Rattle.doc_hub_answers.specs.Replies.{Renders}
+use Rattle.doc_hub_replies.specs.Replies.{Renders}
 use Rattle.doc_hub.specs.Runs.{Happened, Runs}
 use Rattle.doc_hub.specs.StepLaws.{media_seen, site_seen}
 use Rattle.doc_hub.specs.Worlds.{IsApart, World, asking_of, new_world, token_of}

@@ -3,7 +3,7 @@ use Rattle.std.specs.Prelude.{◌≡◌, ⊤, All, List}
 use Rattle.doc_store_readers.specs.Readers.{ReaderTable}
 use Rattle.doc_media.specs.Media.{Media}
 use Rattle.doc_people.specs.declared.settings.Settings.{Settings}
-use Rattle.doc_hub_answers.specs.Replies.{Renders}
+use Rattle.doc_hub_replies.specs.Replies.{Renders}
 use Rattle.doc_hub_events.specs.declared.event.Event.{Event}
 use Rattle.doc_hub_events.specs.declared.event.Event.TheVariants as events
 use Rattle.doc_hub.specs.Runs.{Happened, Runs}

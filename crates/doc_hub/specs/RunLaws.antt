@@ -7,7 +7,7 @@ use Rattle.doc_hub_events.specs.declared.event.ConnectionEvent.{ConnectionEvent}
 use Rattle.doc_hub_events.specs.declared.event.ConnectionEvent.TheVariants as calls
 use Rattle.doc_hub_events.specs.declared.event.Event.{Event}
 use Rattle.doc_hub_events.specs.declared.event.Event.TheVariants as events
-use Rattle.doc_hub_answers.specs.Replies.{Renders}
+use Rattle.doc_hub_replies.specs.Replies.{Renders}
 use Rattle.doc_hub.specs.Runs.{IsOutOfMemory, Happened, Runs, events_on, sent_on}
 use Rattle.doc_hub.specs.StepLaws.{AgreeOn, connection}
 use Rattle.doc_hub.specs.Worlds.{World}

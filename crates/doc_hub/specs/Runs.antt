@@ -6,7 +6,7 @@ use Rattle.doc_store.specs.declared.moving.MoveError.TheVariants as move_errors
 use Rattle.doc_store_readers.specs.declared.readers.ReaderError.TheVariants as reader_errors
 use Rattle.doc_store.specs.declared.store.EditError.TheVariants as edit_errors
 use Rattle.doc_hub_events.specs.Events.{Said, SaidOn, SaidReader, SaidSite, outcome_of}
-use Rattle.doc_hub_answers.specs.Replies.{Renders}
+use Rattle.doc_hub_replies.specs.Replies.{Renders}
 use Rattle.doc_hub.specs.Worlds.{World, connected, world_pushed, disconnected, world_put, world_removed, world_moved, world_reader_set}
 use Rattle.doc_hub.specs.Worlds.{world_reader_removed, world_readers_set, world_media_set, world_taking, Steps}
 use Rattle.doc_store.specs.declared.site_edit.SiteEdit.{SiteEdit}

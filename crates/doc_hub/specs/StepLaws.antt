@@ -15,8 +15,8 @@ use Rattle.doc_hub_events.specs.declared.event.Event.TheVariants as events
 use Rattle.doc_hub_events.specs.declared.event.ReaderEdit.TheVariants as reader_edits
 use Rattle.doc_hub_events.specs.Events.{step_on}
 use Rattle.doc_hub_events.specs.declared.event.Step.{Step}
-use Rattle.doc_hub_answers.specs.Edits.{puts_taken}
-use Rattle.doc_hub_answers.specs.Replies.{Renders}
+use Rattle.doc_hub_replies.specs.Edits.{puts_taken}
+use Rattle.doc_hub_replies.specs.Replies.{Renders}
 use Rattle.doc_hub.specs.Runs.{Happens}
 use Rattle.doc_hub.specs.Worlds.{World, answer_in, asking_of, reader_of}
 

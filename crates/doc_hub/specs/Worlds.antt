@@ -24,12 +24,12 @@ use Rattle.doc_http.specs.declared.request.Request.{Request}
 use Rattle.doc_http.specs.declared.request.Next.{Next}
 use Rattle.doc_http.specs.declared.request.Next.TheVariants as nexts
 use Rattle.doc_hub.specs.Connections.{Connections, new_connection, pushed, finished}
-use Rattle.doc_hub_answers.specs.Edits.{puts_taken, store_after}
-use Rattle.doc_hub_answers.specs.Replies.{Renders, fault_bytes}
+use Rattle.doc_hub_replies.specs.Edits.{puts_taken, store_after}
+use Rattle.doc_hub_replies.specs.Replies.{Renders, fault_bytes}
 use Rattle.doc_hub_asking.specs.Asking.{Asking, login_of, reader_asking, row_of}
 use Rattle.doc_hub_replies.specs.TakingEdits.{answer_given}
 use Rattle.doc_people.specs.declared.settings.Settings.{Settings}
-use Rattle.doc_hub_answers.specs.declared.answer.Answer.{Answer}
+use Rattle.doc_hub_replies.specs.Answer.{Answer}
 use Rattle.doc_hub.specs.declared.connection.Connection.{Connection}
 use Rattle.doc_hub_events.specs.declared.event.ConnId.{ConnId}
 use Rattle.doc_hub_events.specs.declared.event.Step.{Step}

@@ -10,3 +10,4 @@ mod media_to_set;
 mod telling;
 
 pub use doc_hub_events::{event, outcome, refusal};
+pub use doc_hub_replies::{edit, method};

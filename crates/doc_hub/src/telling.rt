@@ -3,9 +3,9 @@
 ghost use Rattle.std.specs.Prelude.{◌≡◌};
 ghost use Rattle.doc_hub.specs.Worlds.{step_said};
 
-use doc_hub_answers::answer::Answer;
-use doc_hub_answers::edit::Edit;
 use doc_hub_events::event::Step;
+use doc_hub_replies::answer::Answer;
+use doc_hub_replies::edit::Edit;
 
 /// What the step does that sends an answer, and the edit that it tells. The edit is moved, so that no path
 /// is copied.

@@ -20,9 +20,9 @@ use Rattle.doc_store.specs.Store.{StoreState, alias_limit, aliases_after, fits_i
 use Rattle.doc_store.specs.declared.moving.MoveError.TheVariants as move_errors
 use Rattle.doc_store.specs.declared.store.EditError.{EditError}
 use Rattle.doc_store.specs.declared.store.EditError.TheVariants.{TooLong, StoreFull}
-use Rattle.doc_hub_answers.specs.Edits.{puts_left, puts_taken}
-use Rattle.doc_hub_answers.specs.declared.answer.Answer.{Answer}
-use Rattle.doc_hub_answers.proofs.OwnerSteps.{owner_aliases, owner_pages, owner_stands}
+use Rattle.doc_hub_people.specs.Edits.{puts_left, puts_taken}
+use Rattle.doc_hub_people.specs.Answer.{Answer}
+use Rattle.doc_hub_people.proofs.OwnerSteps.{owner_aliases, owner_pages, owner_stands}
 use Rattle.doc_hub_editing.proofs.MakingSteps.{not_out}
 use Rattle.doc_hub_editing.specs.EditAnswers.{no_alias_room, no_room, put_done, put_text}
 use Rattle.doc_hub_editing.specs.EditResponses.{EditingResponse, full_by, refused_for, reply_to_verdict, tag_at, unless, unmet_by}

@@ -22,10 +22,10 @@ use Rattle.doc_store_readers.specs.Pages.{Page}
 use Rattle.doc_store_readers.specs.Sites.{View, goal_in, page_at, view_of}
 use Rattle.doc_store_readers.specs.declared.groups.GroupsError.{GroupsError}
 use Rattle.doc_store_readers.specs.declared.reader.Reader.{Reader}
-use Rattle.doc_hub_answers.specs.Edits.{CanBeMade, CanMove, CanRegroup, puts_left, puts_taken}
-use Rattle.doc_hub_answers.specs.Replies.{Renders, status_reply}
-use Rattle.doc_hub_answers.specs.declared.edit.Edit.TheVariants as edits
-use Rattle.doc_hub_answers.proofs.OwnerSteps.{owner_aliases, owner_page, owner_pages, owner_stands}
+use Rattle.doc_hub_people.specs.Edits.{CanBeMade, CanMove, CanRegroup, puts_left, puts_taken}
+use Rattle.doc_hub_people.specs.Replies.{Renders, status_reply}
+use Rattle.doc_hub_people.specs.Edit.TheVariants as edits
+use Rattle.doc_hub_people.proofs.OwnerSteps.{owner_aliases, owner_page, owner_pages, owner_stands}
 use Rattle.doc_hub_asking.specs.Asking.{Asking, row_of}
 use Rattle.doc_hub_asking.specs.Asking as asked
 use Rattle.doc_hub_people.specs.PeopleAnswers.{offers_for}

@@ -5,7 +5,7 @@ use Rattle.std.proofs.lemmas.Bool.Decides.{nat_tests}
 use Rattle.doc_store_readers.specs.Sites.{IsSite}
 use Rattle.doc_store.specs.Store.{StoreState, may_move, put_limit}
 use Rattle.doc_store.specs.declared.moving.MoveError.TheVariants as move_errors
-use Rattle.doc_hub_answers.specs.Edits.{CanMove, puts_left}
+use Rattle.doc_hub_people.specs.Edits.{CanMove, puts_left}
 
 pub not_out : (puts : ℕ) (out : Bool) → nat_le put_limit puts ≡ out → puts_left puts ≡ true → out ≡ false
 not_out puts true is left = grind (arith, nat_tests)

@@ -5,9 +5,9 @@ use Rattle.doc_page_parts.specs.declared.failure.Memory.{Memory}
 use Rattle.doc_people.specs.declared.settings.Browse.{Browse}
 use Rattle.doc_people.specs.declared.settings.Offers.{Offers}
 use Rattle.doc_store_readers.specs.Sites.{View}
-use Rattle.doc_hub_answers.specs.Replies.{Renders}
-use Rattle.doc_hub_answers.specs.declared.answer.Answer.{Answer}
-use Rattle.doc_hub_answers.specs.declared.exchange.Exchange.{Exchange}
+use Rattle.doc_hub_people.specs.Replies.{Renders}
+use Rattle.doc_hub_people.specs.Answer.{Answer}
+use Rattle.doc_hub_people.specs.Exchange.{Exchange}
 use Rattle.doc_hub_editing_refusals.specs.Asked.{EditRequest}
 use Rattle.doc_hub_editing_refusals.specs.Asked as requests
 use Rattle.doc_hub_editing_refusals.specs.EditRefusals.{refusal_to}

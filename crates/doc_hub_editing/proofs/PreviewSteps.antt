@@ -7,9 +7,9 @@ use Rattle.doc_http.specs.declared.request.Request.{Request}
 use Rattle.doc_page_parts.specs.declared.failure.Memory.{Memory}
 use Rattle.doc_people.specs.declared.settings.Browse.{Browse}
 use Rattle.doc_store_readers.specs.Sites.{View}
-use Rattle.doc_hub_answers.specs.Counts.{previews_of}
-use Rattle.doc_hub_answers.specs.Replies.{Renders}
-use Rattle.doc_hub_answers.specs.declared.answer.Answer.{Answer}
+use Rattle.doc_hub_people.specs.Counts.{previews_of}
+use Rattle.doc_hub_people.specs.Replies.{Renders}
+use Rattle.doc_hub_people.specs.Answer.{Answer}
 use Rattle.doc_media.specs.Media.{Beside}
 use Rattle.doc_hub_editing.specs.EditAnswers.{preview_of, preview_text}
 use Rattle.doc_hub_editing.specs.EditResponses.{Shown, only_reply, refused, refused_for}

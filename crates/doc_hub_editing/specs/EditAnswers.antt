@@ -31,9 +31,9 @@ use Rattle.doc_store_readers.specs.declared.groups.GroupsError.{GroupsError}
 use Rattle.doc_store_readers.specs.declared.groups.GroupsError.TheVariants as groups_errors
 use Rattle.doc_store_readers.specs.declared.reader.Reader.{Reader}
 use Rattle.doc_store_tags.specs.Tags.{names_text, tag_of}
-use Rattle.doc_hub_answers.specs.Replies as plain
-use Rattle.doc_hub_answers.specs.Replies.{Renders, not_allowed, status_reply}
-use Rattle.doc_hub_answers.specs.declared.edit.Edit.TheVariants as edits
+use Rattle.doc_hub_people.specs.Replies as plain
+use Rattle.doc_hub_people.specs.Replies.{Renders, not_allowed, status_reply}
+use Rattle.doc_hub_people.specs.Edit.TheVariants as edits
 use Rattle.doc_hub_asking.specs.Asking.{Asking, owns}
 use Rattle.doc_hub_asking.specs.Asking as asked
 use Rattle.doc_hub_people.specs.PeopleAnswers as people

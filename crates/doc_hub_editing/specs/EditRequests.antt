@@ -7,9 +7,9 @@ use Rattle.doc_http_targets.specs.EditTargets as edit_routes
 use Rattle.doc_http_targets.specs.Targets.{Route, route_of}
 use Rattle.doc_http_targets.specs.Targets as routes
 use Rattle.doc_people.specs.declared.settings.Browse.{Browse}
-use Rattle.doc_hub_answers.specs.Replies.{method_of}
-use Rattle.doc_hub_answers.specs.declared.method.Method.{Method}
-use Rattle.doc_hub_answers.specs.declared.method.Method.TheVariants.{Get, Head, Put, Delete, Post, Other}
+use Rattle.doc_hub_people.specs.Replies.{method_of}
+use Rattle.doc_hub_people.specs.Method.{Method}
+use Rattle.doc_hub_people.specs.Method.TheVariants.{Get, Head, Put, Delete, Post, Other}
 use Rattle.doc_hub_editing_refusals.specs.Asked.{EditRequest, ReadSource, PutSource, PutPage, Remove, Regroup, Move, Open, Preview}
 use Rattle.doc_hub_editing_refusals.specs.Asked.{NotAllowed}
 

@@ -11,9 +11,9 @@ use Rattle.doc_http_replies.specs.PeopleReplies.{PeopleReply, people_bytes}
 use Rattle.doc_http_replies.specs.declared.reply.Reply.{Reply}
 use Rattle.doc_store_readers.specs.Pages.{Page}
 use Rattle.doc_store_tags.specs.Tags.{names_text, tag_of}
-use Rattle.doc_hub_answers.specs.Replies.{status_reply}
-use Rattle.doc_hub_answers.specs.declared.answer.Answer.{Answer}
-use Rattle.doc_hub_answers.specs.declared.edit.Edit.{Edit}
+use Rattle.doc_hub_people.specs.Replies.{status_reply}
+use Rattle.doc_hub_people.specs.Answer.{Answer}
+use Rattle.doc_hub_people.specs.Edit.{Edit}
 
 -- a reply as programs get it of other routes, one that tells of a page's source or why an edit is refused, or a page for people
 pub data EditingReply : Type 0 where

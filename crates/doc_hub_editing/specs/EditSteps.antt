@@ -6,9 +6,9 @@ use Rattle.doc_http_replies.specs.ReplyForms.{reply_of}
 use Rattle.doc_http_targets.specs.Queries.{optional_parameter, parameter}
 use Rattle.doc_people.specs.declared.settings.Browse.{Browse}
 use Rattle.doc_store_readers.specs.Sites.{View, view_of}
-use Rattle.doc_hub_answers.specs.Edits.{puts_taken}
-use Rattle.doc_hub_answers.specs.declared.answer.Answer.{Answer}
-use Rattle.doc_hub_answers.specs.declared.exchange.Exchange.{Exchange}
+use Rattle.doc_hub_people.specs.Edits.{puts_taken}
+use Rattle.doc_hub_people.specs.Answer.{Answer}
+use Rattle.doc_hub_people.specs.Exchange.{Exchange}
 use Rattle.doc_hub_people.specs.PeopleAnswers.{page_reply, unauthorized_reply}
 use Rattle.doc_hub_editing_refusals.specs.Asked.{EditRequest}
 use Rattle.doc_hub_editing_refusals.specs.Asked as requests

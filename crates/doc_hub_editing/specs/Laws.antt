@@ -13,9 +13,9 @@ use Rattle.doc_store_readers.specs.Pages.{Page}
 use Rattle.doc_store_readers.specs.Sites.{View, page_at}
 use Rattle.doc_store_readers.specs.declared.reader.Reader.{Reader}
 use Rattle.doc_store_tags.specs.Tags.{tag_of}
-use Rattle.doc_hub_answers.specs.Replies.{Renders, not_allowed, status_reply}
-use Rattle.doc_hub_answers.specs.declared.edit.Edit.{Edit}
-use Rattle.doc_hub_answers.specs.declared.edit.Edit.TheVariants as edits
+use Rattle.doc_hub_people.specs.Replies.{Renders, not_allowed, status_reply}
+use Rattle.doc_hub_people.specs.Edit.{Edit}
+use Rattle.doc_hub_people.specs.Edit.TheVariants as edits
 use Rattle.doc_hub_asking.specs.Asking.{Asking}
 use Rattle.doc_hub_editing_refusals.specs.Asked.{EditRequest}
 use Rattle.doc_hub_editing_refusals.specs.Asked as requests

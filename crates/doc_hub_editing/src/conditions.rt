@@ -9,7 +9,7 @@ use doc_http::request::Request;
 use doc_http_conditions::conditions::{Conditions, judge};
 use doc_http_conditions::verdict::Verdict;
 use doc_http_replies::edit_reply::EditParts;
-use doc_hub_answers::answer::Answer;
+use doc_hub_people::answer::Answer;
 use doc_page_parts::bytes::Bytes;
 use doc_page_parts::failure::Memory;
 use doc_store::page::Page;

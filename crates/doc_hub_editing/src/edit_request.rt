@@ -12,8 +12,8 @@ use doc_http::request::Request;
 use doc_http_targets::edit_route::{EditRoute, edit_route};
 use doc_http_targets::route::Route;
 use doc_http_targets::routes::Routes;
-use doc_hub_answers::method::Method;
 use doc_hub_editing_refusals::edit_request::EditRequest;
+use doc_hub_people::method::Method;
 use doc_people::settings::Browse;
 
 /// What a request asks of the source of a page, where pages are edited so.

@@ -22,4 +22,4 @@ mod regroups;
 mod removals;
 mod sources;
 
-pub use doc_hub_people::{people, visit};
+pub use doc_hub_people::{Shelf, answer, edit, exchange, method, people, routes, visit};

@@ -3,11 +3,11 @@
 ghost use Rattle.std.specs.Prelude.{◌≡◌, OnErr, OnOk, Some, Ok};
 ghost use Rattle.std.specs.FinMap as map;
 ghost use Rattle.doc_store.specs.Store.{fits_in, may_move, with_move, with_page};
-ghost use Rattle.doc_hub_answers.specs.Counts.{RendersPuts, moves_of};
-ghost use Rattle.doc_hub_answers.specs.Edits.{CanBeMade, CanMove, CanRegroup, regrouped, store_after};
+ghost use Rattle.doc_hub_people.specs.Counts.{RendersPuts, moves_of};
+ghost use Rattle.doc_hub_people.specs.Edits.{CanBeMade, CanMove, CanRegroup, regrouped, store_after};
 
-use doc_hub_answers::Shelf;
-use doc_hub_answers::edit::Edit;
+use doc_hub_people::Shelf;
+use doc_hub_people::edit::Edit;
 use doc_page::renderer::Renderer;
 use doc_page_parts::failure::Memory;
 use doc_page_parts::heap::Heap;

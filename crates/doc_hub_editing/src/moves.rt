@@ -12,8 +12,8 @@ use crate::desk::Desk;
 use doc_http::status::Status;
 use doc_http_targets::query::optional_parameter;
 use doc_http_targets::written_path::written_path;
-use doc_hub_answers::answer::Answer;
-use doc_hub_answers::edit::Edit;
+use doc_hub_people::answer::Answer;
+use doc_hub_people::edit::Edit;
 use doc_page_parts::failure::Memory;
 use doc_page_parts::path::{Path, PathError};
 

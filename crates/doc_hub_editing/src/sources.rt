@@ -9,8 +9,8 @@ ghost use Rattle.doc_hub_editing.specs.EditSteps.{request_at, told_at, view_at};
 use crate::desk::Desk;
 use doc_http::status::Status;
 use doc_http_targets::written_path::written_path;
-use doc_hub_answers::answer::Answer;
-use doc_hub_answers::goals::goal_answer;
+use doc_hub_people::answer::Answer;
+use doc_hub_people::goals::goal_answer;
 use doc_page_parts::failure::Memory;
 use doc_page_parts::path::Path;
 

@@ -2,7 +2,7 @@
 use Rattle.std.proofs.Common.{◌≡◌, ap}
 use Rattle.std.specs.Prelude.{Option, Some, None, IfOk, Result, is_some, option_map}
 use Rattle.doc_page_parts.specs.declared.failure.Memory.{Memory}
-use Rattle.doc_hub_answers.specs.declared.answer.Answer.{Answer}
+use Rattle.doc_hub_editing.specs.Answer.{Answer}
 use Rattle.doc_hub_editing.specs.EditResponses.{EditingReply, EditingResponse, only_reply, unless}
 
 pub was_found : {X Y : Type 0} (f : X → Y) (found : Option X) (stands : Option Y) → option_map f found ≡ stands

@@ -4,3 +4,5 @@ pub mod MediaLaws
 pub use Rattle.doc_hub_editing.proofs.AskingLaws
 pub use Rattle.doc_hub_editing.proofs.EditLaws as EditingLaws
 pub use Rattle.doc_hub_editing.proofs.EditsCan
+pub use Rattle.doc_hub_editing.proofs.AnswerEdits
+pub use Rattle.doc_hub_editing.proofs.OwnerSteps

@@ -15,8 +15,8 @@ use Rattle.doc_people.specs.declared.settings.Browse.{Browse}
 use Rattle.doc_store_readers.specs.Pages.{Page}
 use Rattle.doc_store_readers.specs.Sites.{View}
 use Rattle.doc_store_readers.specs.declared.reader.Reader.{Reader}
-use Rattle.doc_hub_answers.specs.Replies.{Renders}
-use Rattle.doc_hub_answers.specs.declared.edit.Edit.{Edit}
+use Rattle.doc_hub_editing.specs.Replies.{Renders}
+use Rattle.doc_hub_editing.specs.Edit.{Edit}
 use Rattle.doc_hub_asking.specs.Asking.{Asking, owns}
 use Rattle.doc_hub_asking.specs.Asking as asked
 use Rattle.doc_hub_editing_refusals.specs.Asked.{EditRequest}

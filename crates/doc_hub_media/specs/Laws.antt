@@ -6,7 +6,7 @@ use Rattle.doc_media.specs.Media.{Beside}
 use Rattle.doc_media.specs.declared.kind.MediaKind.{MediaKind}
 use Rattle.doc_people.specs.declared.settings.Browse.{Browse}
 use Rattle.doc_store_readers.specs.Sites.{View}
-use Rattle.doc_hub_answers.specs.Replies.{Renders}
+use Rattle.doc_hub_editing.specs.Replies.{Renders}
 use Rattle.doc_hub_asking.specs.Asking.{Asking, owns}
 use Rattle.doc_hub_media.specs.MediaAnswers.{MediaResponse, Medium, media_answer, media_response}
 

@@ -24,9 +24,9 @@ use Rattle.doc_people.specs.declared.settings.Browse.{Browse}
 use Rattle.doc_store_readers.specs.Pages.{Page}
 use Rattle.doc_store_readers.specs.Sites.{View}
 use Rattle.doc_store_readers.specs.declared.reader.Reader.{Reader}
-use Rattle.doc_hub_answers.specs.Replies as plain
-use Rattle.doc_hub_answers.specs.Replies.{Renders, not_allowed}
-use Rattle.doc_hub_answers.specs.declared.answer.Answer.{Answer}
+use Rattle.doc_hub_editing.specs.Replies as plain
+use Rattle.doc_hub_editing.specs.Replies.{Renders, not_allowed}
+use Rattle.doc_hub_editing.specs.Answer.{Answer}
 use Rattle.doc_hub_asking.specs.Asking.{Asking, owns}
 use Rattle.doc_hub_asking.specs.Asking as asked
 use Rattle.doc_hub_editing.specs.PeopleAnswers as people

@@ -4,8 +4,8 @@ use Rattle.doc_http.specs.declared.request.Request.{Request}
 use Rattle.doc_http_targets.specs.Targets.{Route, route_of}
 use Rattle.doc_http_targets.specs.Targets as routes
 use Rattle.doc_people.specs.declared.settings.Browse.{Browse}
-use Rattle.doc_hub_answers.specs.Replies.{method_of, reads}
-use Rattle.doc_hub_answers.specs.declared.method.Method.{Method}
+use Rattle.doc_hub_editing.specs.Replies.{method_of, reads}
+use Rattle.doc_hub_editing.specs.Method.{Method}
 use Rattle.doc_hub_editing_refusals.specs.Asked.{EditRequest}
 use Rattle.doc_hub_editing.specs.EditRequests.{at_page, edit_request_of}
 

@@ -2,8 +2,8 @@
 use Rattle.std.specs.Prelude.{Option, Some, None, option_map}
 use Rattle.doc_media.specs.Media.{Beside, beside_of}
 use Rattle.doc_store_readers.specs.Sites.{View}
-use Rattle.doc_hub_answers.specs.declared.answer.Answer.{Answer}
-use Rattle.doc_hub_answers.specs.declared.exchange.Exchange.{Exchange}
+use Rattle.doc_hub_editing.specs.Answer.{Answer}
+use Rattle.doc_hub_editing.specs.Exchange.{Exchange}
 use Rattle.doc_hub_editing_refusals.specs.AskedSteps.{edit_request_shown}
 use Rattle.doc_hub_editing.specs.EditSteps.{editing_sent, view_at}
 use Rattle.doc_http_media.specs.MediumReplies.{medium_bytes}

@@ -10,4 +10,6 @@ pub mod media_desk;
 pub mod media_request;
 pub mod media_visit;
 
-pub use doc_hub_editing::{edit_request, editing, people, visit};
+pub use doc_hub_editing::{
+    Shelf, answer, edit, edit_request, editing, exchange, method, people, routes, visit,
+};

@@ -20,7 +20,7 @@ use doc_http::status::Status;
 use doc_http_media::medium_reply::MediumParts;
 use doc_http_targets::query::optional_parameter;
 use doc_http_targets::written_path::written_path;
-use doc_hub_answers::answer::Answer;
+use doc_hub_editing::answer::Answer;
 use doc_hub_editing::desk::Desk;
 use doc_media::kind::MediaKind;
 use doc_media::manner::Manner;

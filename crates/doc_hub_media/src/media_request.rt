@@ -9,8 +9,8 @@ ghost use Rattle.doc_hub_media.specs.MediaSteps.{media_request_shown};
 use doc_http::request::Request;
 use doc_http_targets::route::Route;
 use doc_http_targets::routes::Routes;
-use doc_hub_answers::method::Method;
 use doc_hub_editing::edit_request::edit_request;
+use doc_hub_editing::method::Method;
 use doc_hub_editing_refusals::edit_request::EditRequest;
 use doc_people::settings::Browse;
 

@@ -9,3 +9,5 @@ mod lists;
 mod pages;
 pub mod people;
 pub mod visit;
+
+pub use doc_hub_answers::{Shelf, answer, edit, exchange, goals, method, routes};

@@ -11,10 +11,10 @@ use Rattle.doc_people.specs.declared.settings.Browse.{Browse}
 use Rattle.doc_store_readers.specs.Readers.{ReaderTable}
 use Rattle.doc_store_readers.specs.Sites.{Site, View, view_of}
 use Rattle.doc_store_readers.specs.declared.reader.Reader.{Reader}
-use Rattle.doc_hub_answers.specs.AnswerSteps.{entry_of}
-use Rattle.doc_hub_answers.specs.Replies.{Renders, method_of, plain_answer, reads, response_to}
-use Rattle.doc_hub_answers.specs.declared.answer.Answer.{Answer}
-use Rattle.doc_hub_answers.specs.declared.edit.Edit.{Edit}
+use Rattle.doc_hub_media.specs.AnswerSteps.{entry_of}
+use Rattle.doc_hub_media.specs.Replies.{Renders, method_of, plain_answer, reads, response_to}
+use Rattle.doc_hub_media.specs.Answer.{Answer}
+use Rattle.doc_hub_media.specs.Edit.{Edit}
 use Rattle.doc_hub_media.proofs.AskingLaws.{bearers_alone_are_known, guests_own_nothing}
 use Rattle.doc_hub_asking.specs.Asking.{Asking, is_guest, known_by, reader_asking, row_of}
 use Rattle.doc_hub_asking.specs.Asking as asked

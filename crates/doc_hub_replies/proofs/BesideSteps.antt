@@ -19,12 +19,12 @@ use Rattle.doc_store_readers.specs.Pages.{Page}
 use Rattle.doc_store_readers.specs.Readers.{ReaderTable}
 use Rattle.doc_store_readers.specs.Sites.{Site, View, view_of}
 use Rattle.doc_store_readers.specs.declared.reader.Reader.{Reader}
-use Rattle.doc_hub_answers.specs.AnswerSteps.{AnsweredSo}
-use Rattle.doc_hub_answers.specs.Counts.{RendersPuts, moves_of, previews_of}
-use Rattle.doc_hub_answers.specs.Replies.{Renders, method_of}
-use Rattle.doc_hub_answers.specs.declared.answer.Answer.{Answer}
-use Rattle.doc_hub_answers.specs.declared.exchange.Exchange.{Exchange}
-use Rattle.doc_hub_answers.specs.declared.method.Method.{Method}
+use Rattle.doc_hub_media.specs.AnswerSteps.{AnsweredSo}
+use Rattle.doc_hub_media.specs.Counts.{RendersPuts, moves_of, previews_of}
+use Rattle.doc_hub_media.specs.Replies.{Renders, method_of}
+use Rattle.doc_hub_media.specs.Answer.{Answer}
+use Rattle.doc_hub_media.specs.Exchange.{Exchange}
+use Rattle.doc_hub_media.specs.Method.{Method}
 use Rattle.doc_hub_asking.specs.Asking.{Asking, is_guest, owns, reader_asking, row_of}
 use Rattle.doc_hub_asking.specs.Asking as asked
 use Rattle.doc_hub_editing_refusals.specs.Asked.{EditRequest}

@@ -13,9 +13,9 @@ use Rattle.doc_people.specs.declared.settings.Offers.{Offers}
 use Rattle.doc_store_readers.specs.Pages.{Page}
 use Rattle.doc_store_readers.specs.Sites.{View, goal_in, page_at}
 use Rattle.doc_store_readers.specs.declared.reader.Reader.{Reader}
-use Rattle.doc_hub_answers.specs.Replies.{Renders, method_of, reads}
-use Rattle.doc_hub_answers.specs.declared.method.Method.{Method}
-use Rattle.doc_hub_answers.specs.declared.method.Method.TheVariants.{Get, Head, Put, Delete, Post, Other}
+use Rattle.doc_hub_media.specs.Replies.{Renders, method_of, reads}
+use Rattle.doc_hub_media.specs.Method.{Method}
+use Rattle.doc_hub_media.specs.Method.TheVariants.{Get, Head, Put, Delete, Post, Other}
 use Rattle.doc_hub_asking.specs.Asking.{Asking, is_guest, owns, row_of}
 use Rattle.doc_hub_asking.specs.Asking as asked
 use Rattle.doc_hub_media.specs.PeopleLaws.{OwnsNothing}

@@ -7,10 +7,10 @@ use Rattle.doc_http_targets.specs.Targets as routes
 use Rattle.doc_media.specs.Media.{Beside}
 use Rattle.doc_store_readers.specs.Sites.{View}
 use Rattle.doc_store_readers.specs.declared.reader.Reader.{Reader}
-use Rattle.doc_hub_answers.specs.Replies.{Renders, Response, at_route}
-use Rattle.doc_hub_answers.specs.Replies.{method_of, on_route, refused, response_to}
-use Rattle.doc_hub_answers.specs.declared.method.Method.{Method}
-use Rattle.doc_hub_answers.specs.declared.method.Method.TheVariants.{Get, Head, Put, Delete, Post, Other}
+use Rattle.doc_hub_media.specs.Replies.{Renders, Response, at_route}
+use Rattle.doc_hub_media.specs.Replies.{method_of, on_route, refused, response_to}
+use Rattle.doc_hub_media.specs.Method.{Method}
+use Rattle.doc_hub_media.specs.Method.TheVariants.{Get, Head, Put, Delete, Post, Other}
 use Rattle.doc_hub_asking.specs.Asking.{Asking, is_guest, row_of}
 use Rattle.doc_hub_asking.specs.Asking as asked
 use Rattle.doc_hub_media.specs.PeopleLaws.{OwnsNothing}

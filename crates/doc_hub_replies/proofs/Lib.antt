@@ -9,3 +9,5 @@ pub mod TakingLaws
 pub use Rattle.doc_hub_media.proofs.EditingLaws
 pub use Rattle.doc_hub_media.proofs.EditsCan
 pub use Rattle.doc_hub_media.proofs.MediaLaws
+pub use Rattle.doc_hub_media.proofs.AnswerEdits
+pub use Rattle.doc_hub_media.proofs.OwnerSteps

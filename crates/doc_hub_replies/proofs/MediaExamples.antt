@@ -33,8 +33,8 @@ use Rattle.doc_media.specs.Kinds.{kind_of}
 use Rattle.doc_media.specs.Media.{Beside}
 use Rattle.doc_people.specs.declared.settings.Browse.{Browse}
 use Rattle.doc_people.specs.declared.settings.Settings.{Settings}
-use Rattle.doc_hub_answers.specs.Replies.{Renders}
-use Rattle.doc_hub_answers.specs.declared.answer.Answer.{Answer}
+use Rattle.doc_hub_media.specs.Replies.{Renders}
+use Rattle.doc_hub_media.specs.Answer.{Answer}
 use Rattle.doc_hub_asking.specs.Asking.{Asking, Guest, Known}
 use Rattle.doc_hub_media.specs.EditAnswers.{edit_response}
 use Rattle.doc_hub_media.specs.MediaAnswers.{media_response}

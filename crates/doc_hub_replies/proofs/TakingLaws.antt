@@ -22,15 +22,15 @@ use Rattle.doc_store.specs.Store.{StoreState}
 use Rattle.doc_store_readers.specs.Readers.{ReaderTable}
 use Rattle.doc_store_readers.specs.Sites.{View, view_of}
 use Rattle.doc_store_readers.specs.declared.reader.Reader.{Reader}
-use Rattle.doc_hub_answers.specs.AnswerSteps.{AnsweredSo, sent_in}
-use Rattle.doc_hub_answers.specs.Counts.{RendersPuts, moves_of, previews_of}
-use Rattle.doc_hub_answers.specs.Replies.{Renders, Response, at_route, edit_at, method_of, on_route, only_reply, reads, refused, reply_at}
-use Rattle.doc_hub_answers.specs.Replies.{not_allowed, plain_answer, response_to}
-use Rattle.doc_hub_answers.specs.declared.exchange.Exchange.{Exchange}
-use Rattle.doc_hub_answers.specs.declared.answer.Answer.{Answer}
-use Rattle.doc_hub_answers.specs.declared.edit.Edit.{Edit}
-use Rattle.doc_hub_answers.specs.declared.method.Method.{Method}
-use Rattle.doc_hub_answers.specs.declared.method.Method.TheVariants.{Get, Head, Put, Delete, Post, Other}
+use Rattle.doc_hub_media.specs.AnswerSteps.{AnsweredSo, sent_in}
+use Rattle.doc_hub_media.specs.Counts.{RendersPuts, moves_of, previews_of}
+use Rattle.doc_hub_media.specs.Replies.{Renders, Response, at_route, edit_at, method_of, on_route, only_reply, reads, refused, reply_at}
+use Rattle.doc_hub_media.specs.Replies.{not_allowed, plain_answer, response_to}
+use Rattle.doc_hub_media.specs.Exchange.{Exchange}
+use Rattle.doc_hub_media.specs.Answer.{Answer}
+use Rattle.doc_hub_media.specs.Edit.{Edit}
+use Rattle.doc_hub_media.specs.Method.{Method}
+use Rattle.doc_hub_media.specs.Method.TheVariants.{Get, Head, Put, Delete, Post, Other}
 use Rattle.doc_hub_asking.specs.Asking.{Asking, is_guest, owns, reader_asking, row_of}
 use Rattle.doc_hub_asking.specs.Asking as asked
 use Rattle.doc_hub_media.specs.PeopleAnswers.{offers_for, people_reply}

@@ -13,8 +13,8 @@ use Rattle.doc_people.specs.declared.settings.Browse.{Browse}
 use Rattle.doc_people.specs.declared.settings.Settings.{Settings}
 use Rattle.doc_people.specs.declared.style_sheet.TheConstants.{STYLE_SHEET}
 use Rattle.doc_store_readers.specs.Sites.{View}
-use Rattle.doc_hub_answers.specs.Replies.{Renders, Response, method_of, plain_answer, reads, refused, response_to}
-use Rattle.doc_hub_answers.specs.declared.answer.Answer.{Answer}
+use Rattle.doc_hub_media.specs.Replies.{Renders, Response, method_of, plain_answer, reads, refused, response_to}
+use Rattle.doc_hub_media.specs.Answer.{Answer}
 use Rattle.doc_hub_asking.specs.Asking.{Asking, is_guest, row_of}
 use Rattle.doc_hub_media.specs.PeopleAnswers.{people_reply, realm_of}
 use Rattle.doc_hub_media.specs.EditAnswers.{edit_response, is_preview}

@@ -7,9 +7,9 @@ use Rattle.doc_people.specs.declared.settings.Browse.{Browse}
 use Rattle.doc_people.specs.declared.settings.Settings.{Settings}
 use Rattle.doc_store_readers.specs.Readers.{ReaderTable}
 use Rattle.doc_store_readers.specs.Sites.{Site, View, view_of}
-use Rattle.doc_hub_answers.specs.AnswerSteps.{entry_of}
-use Rattle.doc_hub_answers.specs.Replies.{Renders, plain_answer, response_to}
-use Rattle.doc_hub_answers.specs.declared.answer.Answer.{Answer}
+use Rattle.doc_hub_media.specs.AnswerSteps.{entry_of}
+use Rattle.doc_hub_media.specs.Replies.{Renders, plain_answer, response_to}
+use Rattle.doc_hub_media.specs.Answer.{Answer}
 use Rattle.doc_hub_asking.specs.Asking.{Asking, is_guest, reader_asking, row_of}
 use Rattle.doc_hub_asking.specs.Asking as asked
 use Rattle.doc_hub_media.specs.EditRequests.{edit_request_of}

@@ -10,3 +10,10 @@ pub use Rattle.doc_hub_media.specs.EditResponses
 pub use Rattle.doc_hub_media.specs.EditLaws
 pub use Rattle.doc_hub_media.specs.MediaAnswers
 pub use Rattle.doc_hub_media.specs.MediaRequests
+pub use Rattle.doc_hub_media.specs.Counts
+pub use Rattle.doc_hub_media.specs.Edits
+pub use Rattle.doc_hub_media.specs.Replies
+pub use Rattle.doc_hub_media.specs.Shelves
+pub use Rattle.doc_hub_media.specs.Answer
+pub use Rattle.doc_hub_media.specs.Edit
+pub use Rattle.doc_hub_media.specs.Method

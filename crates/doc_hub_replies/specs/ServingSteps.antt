@@ -7,10 +7,10 @@ use Rattle.doc_media.specs.Media.{Media, beside_of}
 use Rattle.doc_people.specs.declared.settings.Settings.{Settings}
 use Rattle.doc_store_readers.specs.Readers.{ReaderTable}
 use Rattle.doc_store_readers.specs.Sites.{Site, view_of}
-use Rattle.doc_hub_answers.specs.Replies.{Renders}
-use Rattle.doc_hub_answers.specs.declared.answer.Answer.{Answer}
-use Rattle.doc_hub_answers.specs.declared.method.Method.{Method}
-use Rattle.doc_hub_answers.specs.declared.method.Method.TheVariants.{Put, Delete}
+use Rattle.doc_hub_media.specs.Replies.{Renders}
+use Rattle.doc_hub_media.specs.Answer.{Answer}
+use Rattle.doc_hub_media.specs.Method.{Method}
+use Rattle.doc_hub_media.specs.Method.TheVariants.{Put, Delete}
 use Rattle.doc_hub_asking.specs.Asking.{reader_asking, row_of}
 use Rattle.doc_hub_media.specs.MediaAnswers.{MediaResponse, media_answer, media_response}
 use Rattle.doc_hub_replies.specs.Answers.{dress_by, is_for_people}

@@ -14,10 +14,10 @@ use Rattle.doc_media.specs.Media.{Beside}
 use Rattle.doc_people.specs.declared.settings.Browse.{Browse}
 use Rattle.doc_people.specs.declared.settings.Settings.{Settings}
 use Rattle.doc_store_readers.specs.Sites.{View}
-use Rattle.doc_hub_answers.specs.Replies.{Renders, method_of, not_allowed, only_reply, plain_answer, reads}
-use Rattle.doc_hub_answers.specs.declared.answer.Answer.{Answer}
-use Rattle.doc_hub_answers.specs.declared.method.Method.{Method}
-use Rattle.doc_hub_answers.specs.declared.method.Method.TheVariants.{Post}
+use Rattle.doc_hub_media.specs.Replies.{Renders, method_of, not_allowed, only_reply, plain_answer, reads}
+use Rattle.doc_hub_media.specs.Answer.{Answer}
+use Rattle.doc_hub_media.specs.Method.{Method}
+use Rattle.doc_hub_media.specs.Method.TheVariants.{Post}
 use Rattle.doc_hub_asking.specs.Asking.{Asking}
 use Rattle.doc_hub_asking.specs.Asking as asked
 use Rattle.doc_hub_replies.specs.Answers.{answer_of, dress_by}

@@ -6,7 +6,7 @@ ghost use Rattle.doc_hub_replies.specs.Answers.{asks_for_style, is_for_people};
 
 use doc_http::request::Request;
 use doc_http_targets::people_route::is_style_sheet;
-use doc_hub_answers::method::Method;
+use doc_hub_media::method::Method;
 
 /// Whether a request asks for the style sheet of the pages for people.
 pub fn asks_for_style(request: &Request) -> bool

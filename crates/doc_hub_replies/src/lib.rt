@@ -11,3 +11,5 @@ mod beside;
 pub mod laws;
 pub mod serving;
 mod taking;
+
+pub use doc_hub_media::{Shelf, answer, edit, method};

@@ -15,8 +15,8 @@ use doc_http::request::Request;
 use doc_http_targets::edit_route::{EditRoute, edit_route};
 use doc_http_targets::route::Route;
 use doc_http_targets::routes::Routes;
-use doc_hub_answers::answer::Answer;
-use doc_hub_answers::method::Method;
+use doc_hub_media::answer::Answer;
+use doc_hub_media::method::Method;
 use doc_page_parts::failure::Memory;
 use doc_people::settings::Browse;
 

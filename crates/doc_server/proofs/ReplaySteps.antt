@@ -4,7 +4,7 @@ use Rattle.std.specs.Prelude.{Option, IfSome, IsUtf8, Ok}
 use Rattle.std.specs.Io.KnownBytes.{Appends}
 use Rattle.std.proofs.KnownBytes.{Appends-nil, Appends-trans}
 use Rattle.std.proofs.lemmas.List.{append_assoc}
-use Rattle.doc_hub_answers.specs.Replies.{Renders}
+use Rattle.doc_hub.specs.Replies.{Renders}
 use Rattle.doc_hub.specs.Runs.{RunsAll}
 use Rattle.doc_hub.specs.Worlds.{World}
 use Rattle.doc_hub_events.specs.declared.event.Event.{Event}

@@ -5,7 +5,7 @@ use Rattle.std.specs.FinMap as map
 use Rattle.std.specs.Cmp.{unsigned_tied}
 use Rattle.std.proofs.KnownBytes.{Keeps-refl}
 use Rattle.std.proofs.lemmas.Cmp.{nat_cmp_total}
-use Rattle.doc_hub_answers.specs.Replies.{Renders}
+use Rattle.doc_hub.specs.Replies.{Renders}
 use Rattle.doc_hub.specs.Connections.{Connections, new_connection, backlog_limit, pushed_onto, with_pushed, pushed_at}
 use Rattle.doc_hub.specs.Worlds.{World, connected, world_pushed, last_id}
 use Rattle.doc_hub.specs.declared.connection.Connection.{Connection}

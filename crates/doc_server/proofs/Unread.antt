@@ -10,7 +10,7 @@ use Rattle.doc_http.specs.declared.request.Next.TheVariants as nexts
 use Rattle.doc_http.specs.Requests.{IsNext}
 use Rattle.doc_http.proofs.TakenLemmas.{takes_bytes, empty_is_undecided}
 use Rattle.doc_hub.specs.Connections.{finished}
-use Rattle.doc_hub_answers.specs.Replies.{Renders}
+use Rattle.doc_hub.specs.Replies.{Renders}
 use Rattle.doc_hub.specs.Worlds.{World, answer_in, world_after, with_finished, stepped_by, Stays, Answers, StepsAt}
 use Rattle.doc_hub.specs.Runs.{Happens, Leaves}
 use Rattle.doc_hub_events.specs.Events.{step_on, stepping}

@@ -3,7 +3,7 @@ use Rattle.std.proofs.Common.{◌≡◌, refl, inl, ℕ, List, codes}
 use Rattle.std.specs.Prelude.{Option, Some, None, Err}
 use Rattle.std.specs.Io.KnownBytes.{Keeps}
 use Rattle.doc_hub.specs.Connections.{backlog_limit}
-use Rattle.doc_hub_answers.specs.Replies.{Renders}
+use Rattle.doc_hub.specs.Replies.{Renders}
 use Rattle.doc_server.specs.Demo.{StopsDemo}
 use Rattle.doc_server_streams.specs.Faults.{IsUnread, failed_writes_after}
 use Rattle.doc_server_streams.specs.declared.fault.Fault.{Fault}

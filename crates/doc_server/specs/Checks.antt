@@ -2,7 +2,7 @@
 use Rattle.std.specs.Prelude.{◌≡◌, ℕ, List, [], ◌∷◌, Option, Result, Ok, Err}
 use Rattle.std.specs.Option.{ok_or}
 use Rattle.std.specs.Io.KnownBytes.{Appends, Keeps}
-use Rattle.doc_hub_answers.specs.Replies.{Renders}
+use Rattle.doc_hub.specs.Replies.{Renders}
 use Rattle.doc_hub.specs.Worlds.{World, report_in}
 use Rattle.doc_server_config.specs.declared.config.SiteConfig.{SiteConfig}
 use Rattle.doc_server_streams.specs.Streams.{AppendsPrefix}

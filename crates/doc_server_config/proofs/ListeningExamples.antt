@@ -12,7 +12,7 @@ use Rattle.doc_store_readers.specs.Groups.{groups_of_names}
 use Rattle.doc_server_config.specs.declared.folder.FolderFault.TheVariants.{OtherKey, BadFile, BadPrefix, BadGroups, BadExcept, BadNames, BadReadme}
 use Rattle.doc_server_config.specs.declared.folder.FolderFault.TheVariants.{BadMedia, BadOnBad}
 use Rattle.doc_server_config.specs.declared.listening.ListeningError.TheVariants.{BadToml, BadListen, BadConnections, BadIdleSeconds, BadMediaBytes}
-use Rattle.doc_server_config.specs.declared.listening.ListeningError.TheVariants.{BadFolders, BadFolder, BadName, BadStrangerSeconds, BadRequestSeconds}
+use Rattle.doc_server_config.specs.declared.listening.ListeningError.TheVariants.{BadFolders, BadFolder, BadName, BadStrangerSeconds, BadRequestSeconds, BadFollowMillis}
 use Rattle.doc_server_config.specs.Excepted.{is_excepted}
 use Rattle.doc_server_config.specs.FileNames.{path_in_folder}
 use Rattle.doc_server_config.specs.Listenings.{listening_of}
@@ -24,18 +24,18 @@ use Rattle.doc_server_config.specs.Readmes.{index_move}
 -- ---- what is read
 
 -- nothing is said, or nothing that is `listen`'s concern: 1,024 connections, 30 seconds, no folder
-empty_text : listening_of (codes "") ≡ Ok (record { bounds = record { connections = 1024; idle_seconds = 30; media_bytes = 67108864; stranger_seconds = 5; request_seconds = 60 }; folders = [] })
+empty_text : listening_of (codes "") ≡ Ok (record { bounds = record { connections = 1024; idle_seconds = 30; media_bytes = 67108864; stranger_seconds = 5; request_seconds = 60; follow_millis = 20 }; folders = [] })
 unfolding toml_on_literals
 empty_text = refl
 
 other_keys_of_the_document : listening_of (codes "cache = 0\npage = 1\n[listen]\n")
-    ≡ Ok (record { bounds = record { connections = 1024; idle_seconds = 30; media_bytes = 67108864; stranger_seconds = 5; request_seconds = 60 }; folders = [] })
+    ≡ Ok (record { bounds = record { connections = 1024; idle_seconds = 30; media_bytes = 67108864; stranger_seconds = 5; request_seconds = 60; follow_millis = 20 }; folders = [] })
 unfolding toml_on_literals
 other_keys_of_the_document = refl
 
-all_keys : listening_of (codes "[[folder]]\npath = \"../d\"\nprefix = \"g/h\"\ngroups = [\"b\", \"a\"]\nexcept = [\"x/y\", \".z\"]\nmedia = [\"png\", \"jpeg\", \"png\"]\nnames = \"nfc\"\nreadme = true\non_bad = \"skip\"\n[[folder]]\npath = \"\"\n[listen]\nconnections = 1\nidle_seconds = 86400\nmedia_bytes = 1073741824\nrequest_seconds = 1\nstranger_seconds = 86400\n")
+all_keys : listening_of (codes "[[folder]]\npath = \"../d\"\nprefix = \"g/h\"\ngroups = [\"b\", \"a\"]\nexcept = [\"x/y\", \".z\"]\nmedia = [\"png\", \"jpeg\", \"png\"]\nnames = \"nfc\"\nreadme = true\non_bad = \"skip\"\n[[folder]]\npath = \"\"\n[listen]\nconnections = 1\nidle_seconds = 86400\nmedia_bytes = 1073741824\nrequest_seconds = 1\nfollow_millis = 10000\nstranger_seconds = 86400\n")
     ≡ Ok (record {
-      bounds = record { connections = 1; idle_seconds = 86400; media_bytes = 1073741824; stranger_seconds = 86400; request_seconds = 1 };
+      bounds = record { connections = 1; idle_seconds = 86400; media_bytes = 1073741824; stranger_seconds = 86400; request_seconds = 1; follow_millis = 10000 };
       folders = record {
         file = codes "../d";
         prefix = codes "g/h";
@@ -258,6 +258,15 @@ no_seconds_of_strangers = refl
 a_day_and_a_second : listening_of (codes "listen = { request_seconds = 86401, stranger_seconds = 1 }") ≡ Err BadRequestSeconds
 unfolding toml_on_literals
 a_day_and_a_second = refl
+
+-- milliseconds between the looks of who follows, which come last of the table's
+no_milliseconds : listening_of (codes "[listen]\nfollow_millis = 0\nrequest_seconds = 0\n") ≡ Err BadRequestSeconds
+unfolding toml_on_literals
+no_milliseconds = refl
+
+more_than_ten_seconds : listening_of (codes "listen = { follow_millis = 10001 }") ≡ Err BadFollowMillis
+unfolding toml_on_literals
+more_than_ten_seconds = refl
 
 -- names of readers, which come last
 no_names :

@@ -1,10 +1,10 @@
 -- The table `listen` of a configuration, a TOML 1.1 document. Its keys and bounds are this project's choice.
-use Rattle.std.specs.Prelude.{ℕ, ℤ, pos, negsuc, [], ◌∷◌, ◌&&◌, nat_le, codes, Option, Some, None, option_and_then, Result, Ok, Err}
+use Rattle.std.specs.Prelude.{List, ℕ, ℤ, pos, negsuc, [], ◌∷◌, ◌&&◌, nat_le, codes, Option, Some, None, option_and_then, Result, Ok, Err}
 use Rattle.std.specs.Prelude.{if◌then◌else◌}
 use Rattle.toml.specs.Data.{Data, Members, get_member, as_integer, as_table}
 use Rattle.doc_server_config.specs.declared.bounds.Bounds.{Bounds}
 use Rattle.doc_server_config.specs.declared.listening.ListeningError.{ListeningError}
-use Rattle.doc_server_config.specs.declared.listening.ListeningError.TheVariants.{BadListen, BadConnections, BadIdleSeconds, BadMediaBytes, BadStrangerSeconds, BadRequestSeconds}
+use Rattle.doc_server_config.specs.declared.listening.ListeningError.TheVariants.{BadListen, BadConnections, BadIdleSeconds, BadMediaBytes, BadStrangerSeconds, BadRequestSeconds, BadFollowMillis}
 use Rattle.doc_server_config.specs.Keys.{has_only}
 
 -- a number from 1 to a bound
@@ -39,30 +39,43 @@ abbrev pub media_bytes_at : Option Data → Option ℕ
 media_bytes_at None = Some 67108864
 media_bytes_at (Some value) = option_and_then (within 1073741824) (as_integer value)
 
+-- how many milliseconds a server that follows another waits at most before it looks: the same from 1 to 10,000; without the key 20
+abbrev pub follow_millis_at : Option Data → Option ℕ
+follow_millis_at None = Some 20
+follow_millis_at (Some value) = option_and_then (within 10000) (as_integer value)
+
 -- bounds of these parts, the first of which comes first where several are bad
-abbrev pub bounds_with : Option ℕ → Option ℕ → Option ℕ → Option ℕ → Option ℕ → Result Bounds ListeningError
-bounds_with None idle media stranger request = Err BadConnections
-bounds_with (Some connections) None media stranger request = Err BadIdleSeconds
-bounds_with (Some connections) (Some idle) None stranger request = Err BadMediaBytes
-bounds_with (Some connections) (Some idle) (Some media) None request = Err BadStrangerSeconds
-bounds_with (Some connections) (Some idle) (Some media) (Some stranger) None = Err BadRequestSeconds
-bounds_with (Some connections) (Some idle) (Some media) (Some stranger) (Some request) =
+abbrev pub bounds_with : Option ℕ → Option ℕ → Option ℕ → Option ℕ → Option ℕ → Option ℕ → Result Bounds ListeningError
+bounds_with None idle media stranger request follow = Err BadConnections
+bounds_with (Some connections) None media stranger request follow = Err BadIdleSeconds
+bounds_with (Some connections) (Some idle) None stranger request follow = Err BadMediaBytes
+bounds_with (Some connections) (Some idle) (Some media) None request follow = Err BadStrangerSeconds
+bounds_with (Some connections) (Some idle) (Some media) (Some stranger) None follow = Err BadRequestSeconds
+bounds_with (Some connections) (Some idle) (Some media) (Some stranger) (Some request) None = Err BadFollowMillis
+bounds_with (Some connections) (Some idle) (Some media) (Some stranger) (Some request) (Some follow) =
     Ok (record {
       connections = connections;
       idle_seconds = idle;
       media_bytes = media;
       stranger_seconds = stranger;
       request_seconds = request;
+      follow_millis = follow;
     })
+
+-- the keys of the table
+abbrev pub bounds_keys : List (List ℕ)
+bounds_keys =
+    codes "connections" ∷ codes "idle_seconds" ∷ codes "media_bytes" ∷ codes "stranger_seconds" ∷ codes "request_seconds"
+    ∷ codes "follow_millis" ∷ []
 
 -- the bounds that a table is, which has these keys alone
 abbrev pub bounds_of : Members → Result Bounds ListeningError
 bounds_of table =
-    if has_only
-    (codes "connections" ∷ codes "idle_seconds" ∷ codes "media_bytes" ∷ codes "stranger_seconds" ∷ codes "request_seconds" ∷ []) table
+    if has_only bounds_keys table
     then bounds_with (connections_at (get_member (codes "connections") table))
     (idle_seconds_at (get_member (codes "idle_seconds") table)) (media_bytes_at (get_member (codes "media_bytes") table))
     (stranger_seconds_at (get_member (codes "stranger_seconds") table)) (request_seconds_at (get_member (codes "request_seconds") table))
+    (follow_millis_at (get_member (codes "follow_millis") table))
     else Err BadListen
 
 -- the bounds of what should be a table
@@ -79,6 +92,7 @@ bounds_at None =
       media_bytes = 67108864;
       stranger_seconds = 5;
       request_seconds = 60;
+      follow_millis = 20;
     })
 bounds_at (Some value) = bounds_of_table (as_table value)
 

@@ -11,12 +11,13 @@ use crate::table::{has_only, value_at};
 use toml::{Table, Value};
 
 /// The keys of the table `listen`.
-const KEYS: [&str; 5] = [
+const KEYS: [&str; 6] = [
     "connections",
     "idle_seconds",
     "media_bytes",
     "stranger_seconds",
     "request_seconds",
+    "follow_millis",
 ];
 
 /// How many connections stand at most, where a configuration doesn't say.
@@ -34,11 +35,17 @@ const STRANGER_SECONDS: u32 = 5;
 /// How many seconds a request may take to come, where a configuration doesn't say.
 const REQUEST_SECONDS: u32 = 60;
 
+/// How many milliseconds a server that follows another waits at most before it looks, where a configuration doesn't say.
+const FOLLOW_MILLIS: u32 = 20;
+
 /// How many connections may be asked for.
 const MOST_CONNECTIONS: u32 = 65_535;
 
 /// How many seconds may be asked for: a day.
 const MOST_SECONDS: u32 = 86_400;
+
+/// How many milliseconds may be asked for: ten seconds.
+const MOST_MILLIS: u32 = 10_000;
 
 /// How many bytes of media may be asked for: 1 GiB.
 const MOST_MEDIA_BYTES: u32 = 1_073_741_824;
@@ -56,6 +63,8 @@ pub struct Bounds {
     pub stranger_seconds: u64,
     /// After how many seconds a connection ends whose request isn't whole.
     pub request_seconds: u64,
+    /// How many milliseconds a server that follows another waits at most before it looks.
+    pub follow_millis: u64,
 }
 
 /// The bounds of a document, or the first refusal.
@@ -69,6 +78,7 @@ pub(crate) fn bounds_in(document: &Table) -> Result<Bounds, ListeningError>
             media_bytes: MEDIA_BYTES as usize,
             stranger_seconds: STRANGER_SECONDS as u64,
             request_seconds: REQUEST_SECONDS as u64,
+            follow_millis: FOLLOW_MILLIS as u64,
         });
     };
     match value.as_table() {
@@ -105,12 +115,16 @@ fn bounds_of(table: &Table) -> Result<Bounds, ListeningError>
     else {
         return Err(ListeningError::BadRequestSeconds);
     };
+    let Some(follow_millis) = number_at(table, "follow_millis", MOST_MILLIS, FOLLOW_MILLIS) else {
+        return Err(ListeningError::BadFollowMillis);
+    };
     Ok(Bounds {
         connections: connections as usize,
         idle_seconds: idle_seconds as u64,
         media_bytes: media_bytes as usize,
         stranger_seconds: stranger_seconds as u64,
         request_seconds: request_seconds as u64,
+        follow_millis: follow_millis as u64,
     })
 }
 

@@ -21,8 +21,8 @@ use toml::Table;
 pub enum ListeningError {
     /// The text is no TOML document.
     BadToml,
-    /// `listen` is no table, or has a key other than `connections`, `idle_seconds`, `media_bytes`, `stranger_seconds` and
-    /// `request_seconds`.
+    /// `listen` is no table, or has a key other than `connections`, `idle_seconds`, `media_bytes`, `stranger_seconds`,
+    /// `request_seconds` and `follow_millis`.
     BadListen,
     /// `connections` is no integer from 1 to 65,535.
     BadConnections,
@@ -34,6 +34,8 @@ pub enum ListeningError {
     BadStrangerSeconds,
     /// `request_seconds` is no integer from 1 to 86,400.
     BadRequestSeconds,
+    /// `follow_millis` is no integer from 1 to 10,000.
+    BadFollowMillis,
     /// `folder` is no array of tables.
     BadFolders,
     /// The first folder that is none, and its first fault.
@@ -53,6 +55,7 @@ impl fmt::Display for ListeningError {
             ListeningError::BadMediaBytes => "`media_bytes` is bad",
             ListeningError::BadStrangerSeconds => "`stranger_seconds` is bad",
             ListeningError::BadRequestSeconds => "`request_seconds` is bad",
+            ListeningError::BadFollowMillis => "`follow_millis` is bad",
             ListeningError::BadFolders => "`folder` is bad",
             ListeningError::BadFolder(row, fault) => return write!(f, "folder {row}: {fault}"),
             ListeningError::BadName(row) => return write!(f, "reader {row}: `name` is bad"),
@@ -85,12 +88,13 @@ pub struct Listening {
 }
 
 impl Listening {
-    /// What `listen` goes by, of a TOML 1.1 document: its table `listen` with `connections` (1 to 65,535, else 1,024), `idle_seconds`
-    /// (1 to 86,400, else 30), `media_bytes` (1 to 1,073,741,824, else 67,108,864), `stranger_seconds` (1 to 86,400, else 5) and
-    /// `request_seconds` (1 to 86,400, else 60), and its array `folder`, each with a `path`, a `prefix` (else none), `groups` (an array
-    /// of names, else none), `except` (an array of names of folders in it, else none), and what says how its files are taken
-    /// ([`Folder`]). These tables have no other keys. Of the document's others the `name` of each `reader` is its concern (else none),
-    /// and that alone. Refusals come in the order of [`ListeningError`], but that `Memory` may be answered before another one is found.
+    /// What `listen` goes by, of a TOML 1.1 document: its table `listen` with `connections` (1 to 65,535, else 1,024), `idle_seconds` (1 to
+    /// 86,400, else 30), `media_bytes` (1 to 1,073,741,824, else 67,108,864), `stranger_seconds` (1 to 86,400, else 5), `request_seconds`
+    /// (1 to 86,400, else 60) and `follow_millis` (1 to 10,000, else 20), and its array `folder`, each with a `path`, a `prefix` (else
+    /// none), `groups` (an array of names, else none), `except` (an array of names of folders in it, else none), and what says how its
+    /// files are taken ([`Folder`]). These tables have no other keys. Of the document's others the `name` of each `reader` is its concern
+    /// (else none), and that alone. Refusals come in the order of [`ListeningError`], but that `Memory` may be answered before another one
+    /// is found.
     pub fn from_toml(heap: Heap, text: &str) -> Result<Listening, ListeningError>
         ensures read { IfOk result (λ listening. listening_of text.now ≡ Ok listening) }
         ensures refused { IfErr result

@@ -12,9 +12,9 @@ use Rattle.doc_store.specs.declared.moving.MoveError.{MoveError}
 use Rattle.doc_store.specs.declared.moving.MoveError.TheVariants as move_errors
 use Rattle.doc_store.specs.declared.store.EditError.TheVariants as edit_errors
 use Rattle.doc_store.specs.declared.site_edit.SiteEdit.{SiteEdit}
-use Rattle.doc_hub_answers.specs.Edits.{CanBeMade, CanMove, CanRegroup, regrouped, store_after}
-use Rattle.doc_hub_answers.specs.declared.edit.Edit.{Edit}
-use Rattle.doc_hub_answers.specs.declared.edit.Edit.TheVariants as edits
+use Rattle.doc_hub.specs.Edits.{CanBeMade, CanMove, CanRegroup, regrouped, store_after}
+use Rattle.doc_hub.specs.Edit.{Edit}
+use Rattle.doc_hub.specs.Edit.TheVariants as edits
 use Rattle.doc_media.specs.Media.{Media}
 use Rattle.doc_hub.proofs.Apart.{StaysFree, stands_free}
 use Rattle.doc_hub.specs.Worlds.{IsApart, World, has_medium, may_move_beside, store_of}

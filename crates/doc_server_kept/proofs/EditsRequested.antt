@@ -16,20 +16,20 @@ use Rattle.doc_http_targets.specs.Queries.{optional_parameter, parameter}
 use Rattle.doc_http_targets.specs.WrittenPaths.{path_written}
 use Rattle.doc_people.specs.declared.settings.Browse.{Browse}
 use Rattle.doc_people.specs.declared.settings.Offers.{Offers}
-use Rattle.doc_hub_answers.specs.Replies.{Renders, status_reply}
-use Rattle.doc_hub_answers.specs.declared.edit.Edit.TheVariants as edits
-use Rattle.doc_hub_asking.specs.Asking.{Asking}
-use Rattle.doc_hub_asking.specs.Asking as asked
-use Rattle.doc_hub_replies.specs.PeopleAnswers.{offers_for}
-use Rattle.doc_hub_editing_refusals.specs.Asked.{EditRequest}
-use Rattle.doc_hub_editing_refusals.specs.Asked as requests
-use Rattle.doc_hub_replies.specs.EditRequests.{edit_request_of}
-use Rattle.doc_hub_replies.specs.EditResponses.{EditingReply, EditingResponse, Plain, full_by, refused_for, unless, unmet_by}
-use Rattle.doc_hub_replies.specs.EditAnswers.{begins_path, by_entry, by_other, by_owner, edit_response, folder_begun, form_at, groups_at}
-use Rattle.doc_hub_replies.specs.EditAnswers.{groups_put, move_done, move_named, move_page, named_or, new_form, no_alias_room, no_room}
-use Rattle.doc_hub_replies.specs.EditAnswers.{not_found, open_form, page_of, preview_at, put_at, put_done, put_page, put_text, read_source}
-use Rattle.doc_hub_replies.specs.EditAnswers.{regroup_done, regroup_named, regroup_page, remove_page, response_by, response_if}
-use Rattle.doc_hub_replies.specs.EditAnswers.{source_or_goal}
+use Rattle.doc_hub.specs.Replies.{Renders, status_reply}
+use Rattle.doc_hub.specs.Edit.TheVariants as edits
+use Rattle.doc_hub.specs.Asking.{Asking}
+use Rattle.doc_hub.specs.Asking as asked
+use Rattle.doc_hub.specs.PeopleAnswers.{offers_for}
+use Rattle.doc_hub.specs.Asked.{EditRequest}
+use Rattle.doc_hub.specs.Asked as requests
+use Rattle.doc_hub.specs.EditRequests.{edit_request_of}
+use Rattle.doc_hub.specs.EditResponses.{EditingReply, EditingResponse, Plain, full_by, refused_for, unless, unmet_by}
+use Rattle.doc_hub.specs.EditAnswers.{begins_path, by_entry, by_other, by_owner, edit_response, folder_begun, form_at, groups_at}
+use Rattle.doc_hub.specs.EditAnswers.{groups_put, move_done, move_named, move_page, named_or, new_form, no_alias_room, no_room}
+use Rattle.doc_hub.specs.EditAnswers.{not_found, open_form, page_of, preview_at, put_at, put_done, put_page, put_text, read_source}
+use Rattle.doc_hub.specs.EditAnswers.{regroup_done, regroup_named, regroup_page, remove_page, response_by, response_if}
+use Rattle.doc_hub.specs.EditAnswers.{source_or_goal}
 use Rattle.doc_hub.proofs.AnswerEdits.{HoldsFor}
 use Rattle.doc_server_script.specs.Laws.{IsPathText}
 use Rattle.doc_server_kept.proofs.PathsWritten.{AreGroups, IsNamed, IsPath, groups_are, parameter_is_path, written_is_path}

@@ -8,9 +8,9 @@ use Rattle.doc_http.specs.Requests.{IsNext}
 use Rattle.doc_http.specs.declared.request.Next.{Next}
 use Rattle.doc_http.specs.declared.request.Next.TheVariants as nexts
 use Rattle.doc_http.proofs.LawLemmas.{read_in_one_way}
-use Rattle.doc_hub_answers.specs.Edits.{CanBeMade, store_after}
-use Rattle.doc_hub_answers.specs.Replies.{Renders}
-use Rattle.doc_hub_answers.specs.declared.edit.Edit.{Edit}
+use Rattle.doc_hub.specs.Edits.{CanBeMade, store_after}
+use Rattle.doc_hub.specs.Replies.{Renders}
+use Rattle.doc_hub.specs.Edit.{Edit}
 use Rattle.doc_hub_events.specs.Events.{Said, outcome_of, stepping}
 use Rattle.doc_hub_events.specs.declared.event.ConnId.{ConnId}
 use Rattle.doc_hub_events.specs.declared.event.ConnectionEvent.TheVariants as calls

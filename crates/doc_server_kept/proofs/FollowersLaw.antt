@@ -6,13 +6,13 @@ use Rattle.doc_media.specs.Media.{Beside, Media, beside_of}
 use Rattle.doc_people.specs.declared.settings.Settings.{Settings}
 use Rattle.doc_store_readers.specs.Readers.{ReaderTable}
 use Rattle.doc_store_readers.specs.Sites.{Site, View, view_of}
-use Rattle.doc_hub_answers.specs.Edits.{puts_taken}
-use Rattle.doc_hub_answers.specs.Replies.{Renders}
-use Rattle.doc_hub_answers.specs.declared.answer.Answer.{Answer}
-use Rattle.doc_hub_asking.specs.Asking.{Asking, reader_asking, row_of}
-use Rattle.doc_hub_replies.specs.Answers.{answer_of, dress_by}
-use Rattle.doc_hub_replies.specs.ServingSteps.{closes_after}
-use Rattle.doc_hub_replies.specs.TakingEdits.{answer_given, left_to, refused_or}
+use Rattle.doc_hub.specs.Edits.{puts_taken}
+use Rattle.doc_hub.specs.Replies.{Renders}
+use Rattle.doc_hub.specs.Answer.{Answer}
+use Rattle.doc_hub.specs.Asking.{Asking, reader_asking, row_of}
+use Rattle.doc_hub.specs.Answers.{answer_of, dress_by}
+use Rattle.doc_hub.specs.ServingSteps.{closes_after}
+use Rattle.doc_hub.specs.TakingEdits.{answer_given, left_to, refused_or}
 use Rattle.doc_hub.specs.StepLaws.{Agree, AnswersAlike, is_owners_put}
 use Rattle.doc_hub.specs.Worlds.{World, answer_in, asking_of, reader_of}
 use Rattle.doc_server_kept.specs.Followers.{FollowersAnswerAlike, FollowsAs}

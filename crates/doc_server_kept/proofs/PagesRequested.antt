@@ -11,11 +11,11 @@ use Rattle.doc_http_targets.specs.Queries.{parameter}
 use Rattle.doc_http_targets.specs.Targets.{Route, route_of}
 use Rattle.doc_http_targets.specs.Targets as routes
 use Rattle.doc_http_targets.specs.WrittenPaths.{path_written}
-use Rattle.doc_hub_answers.specs.Replies.{Renders, Response, delete_at, edit_at, edit_page, edited, has_room, method_of}
-use Rattle.doc_hub_answers.specs.Replies.{on_route, only_reply, put_at, put_by, put_page, reads, refused, reply_at, response_to}
-use Rattle.doc_hub_answers.specs.declared.edit.Edit.TheVariants as edits
-use Rattle.doc_hub_answers.specs.declared.method.Method.{Method}
-use Rattle.doc_hub_answers.specs.declared.method.Method.TheVariants.{Get, Head, Put, Delete, Post, Other}
+use Rattle.doc_hub.specs.Replies.{Renders, Response, delete_at, edit_at, edit_page, edited, has_room, method_of}
+use Rattle.doc_hub.specs.Replies.{on_route, only_reply, put_at, put_by, put_page, reads, refused, reply_at, response_to}
+use Rattle.doc_hub.specs.Edit.TheVariants as edits
+use Rattle.doc_hub.specs.Method.{Method}
+use Rattle.doc_hub.specs.Method.TheVariants.{Get, Head, Put, Delete, Post, Other}
 use Rattle.doc_server_kept.proofs.PathsWritten.{AreGroups, IsPath, groups_are, written_is_path}
 use Rattle.doc_server_kept.proofs.SitesOfCalls.{OfCalls}
 

@@ -11,9 +11,9 @@ use Rattle.doc_store_readers.specs.Pages.{Page}
 use Rattle.doc_store_readers.specs.Sites.{Site}
 use Rattle.doc_store.specs.Store.{StoreState, effect_of, is_goal, move_page, remove_page, set_page, with_key_at, with_page, without_goal}
 use Rattle.doc_store.proofs.StoreSteps.{get-without_goal, site_moved}
-use Rattle.doc_hub_answers.specs.Edits.{CanBeMade, CanRegroup, regrouped, store_after}
-use Rattle.doc_hub_answers.specs.declared.edit.Edit.{Edit}
-use Rattle.doc_hub_answers.specs.declared.edit.Edit.TheVariants as edits
+use Rattle.doc_hub.specs.Edits.{CanBeMade, CanRegroup, regrouped, store_after}
+use Rattle.doc_hub.specs.Edit.{Edit}
+use Rattle.doc_hub.specs.Edit.TheVariants as edits
 use Rattle.doc_hub.specs.Worlds.{World, store_of}
 use Rattle.doc_server_script.specs.Laws.{IsPathText, IsText}
 use Rattle.doc_server_listen.specs.Edits.{edit_at}

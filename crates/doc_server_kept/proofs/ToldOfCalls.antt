@@ -9,10 +9,10 @@ use Rattle.doc_store_readers.specs.declared.reader.Reader.{Reader}
 use Rattle.doc_http.specs.Requests.{IsNext}
 use Rattle.doc_http.specs.declared.request.Next.{Next}
 use Rattle.doc_http.specs.declared.request.Next.TheVariants as nexts
-use Rattle.doc_hub_answers.specs.Edits.{puts_taken}
-use Rattle.doc_hub_answers.specs.Replies.{Renders}
-use Rattle.doc_hub_answers.specs.declared.edit.Edit.{Edit}
-use Rattle.doc_hub_replies.specs.Answers.{is_for_people}
+use Rattle.doc_hub.specs.Edits.{puts_taken}
+use Rattle.doc_hub.specs.Replies.{Renders}
+use Rattle.doc_hub.specs.Edit.{Edit}
+use Rattle.doc_hub.specs.Answers.{is_for_people}
 use Rattle.doc_media.specs.Media.{Beside, beside_of}
 use Rattle.doc_hub.proofs.AnswerEdits.{answer_holds}
 use Rattle.doc_hub.specs.StepEdits.{TellsAt, edit_of_step}

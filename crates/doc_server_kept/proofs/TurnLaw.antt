@@ -4,7 +4,7 @@ use Rattle.std.specs.Prelude.{Option, Some, None, IfSome, Ok, option_to_list}
 use Rattle.std.proofs.lemmas.List.Elements.{All-cons, All-head, All-nil, All-tail, All-weaker}
 use Rattle.doc_store.specs.Store.{StoreState}
 use Rattle.doc_store.specs.declared.site_edit.SiteEdit.{SiteEdit}
-use Rattle.doc_hub_answers.specs.Replies.{Renders}
+use Rattle.doc_hub.specs.Replies.{Renders}
 use Rattle.doc_hub_events.specs.declared.event.Event.{Event}
 use Rattle.doc_hub_events.specs.declared.event.Event.TheVariants as events
 use Rattle.doc_hub_events.specs.declared.outcome.Outcome.{Outcome}

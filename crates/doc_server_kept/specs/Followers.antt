@@ -1,8 +1,8 @@
 -- What a server answers that follows another one.
 use Rattle.std.specs.Prelude.{◌≡◌, List, ℕ, true, false, None}
 use Rattle.doc_http.specs.declared.request.Request.{Request}
-use Rattle.doc_hub_answers.specs.Replies.{Renders}
-use Rattle.doc_hub_replies.specs.TakingEdits.{left_to}
+use Rattle.doc_hub.specs.Replies.{Renders}
+use Rattle.doc_hub.specs.TakingEdits.{left_to}
 use Rattle.doc_hub.specs.StepLaws.{is_owners_put}
 use Rattle.doc_hub.specs.Worlds.{World, answer_in, asking_of, reader_of}
 use Rattle.doc_server_kept.specs.KeptTurns.{IsRestored}

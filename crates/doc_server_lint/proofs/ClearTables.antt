@@ -11,7 +11,7 @@ use Rattle.doc_store_readers.specs.Readers.{groups_at}
 use Rattle.doc_server_config.specs.declared.browsing.BrowseError.{BrowseError}
 use Rattle.doc_server_config.specs.declared.browsing.BrowseError.TheVariants.{BadBrowse}
 use Rattle.doc_server_config.specs.declared.listening.ListeningError.TheVariants.{BadListen}
-use Rattle.doc_server_config.specs.Bounds.{bounds_at, bounds_of, bounds_with, connections_at, media_bytes_at, seconds_at}
+use Rattle.doc_server_config.specs.Bounds.{bounds_at, bounds_of, bounds_with, connections_at, follow_millis_at, media_bytes_at, seconds_at}
 use Rattle.doc_server_config.specs.Browsing.{browse_at, browse_of_table, browse_with, editing_at, good_language, good_login, good_title}
 use Rattle.doc_server_config.specs.Browsing.{guest_at, home_at, language_at, login_at, some_browse, title_at}
 use Rattle.doc_server_config.specs.Keys.{has_only, keys_in}
@@ -92,14 +92,20 @@ media_bytes_good : (held : Option Data) → allows (key_fault (rule.Integer 1073
 media_bytes_good None = refl
 media_bytes_good (Some value) = told_allows _ _ refl
 
-bounds_parts : (a b c d e : Option ℕ)
-    → is_ok (bounds_with a b c d e) ≡ (is_some a && (is_some b && (is_some c && (is_some d && (is_some e && true)))))
-bounds_parts None b c d e = refl
-bounds_parts (Some a) None c d e = refl
-bounds_parts (Some a) (Some b) None d e = refl
-bounds_parts (Some a) (Some b) (Some c) None e = refl
-bounds_parts (Some a) (Some b) (Some c) (Some d) None = refl
-bounds_parts (Some a) (Some b) (Some c) (Some d) (Some e) = refl
+follow_millis_good : (held : Option Data) → allows (key_fault (rule.Integer 10000) held) ≡ is_some (follow_millis_at held)
+follow_millis_good None = refl
+follow_millis_good (Some value) = told_allows _ _ refl
+
+bounds_parts : (a b c d e f : Option ℕ)
+    → is_ok (bounds_with a b c d e f)
+    ≡ (is_some a && (is_some b && (is_some c && (is_some d && (is_some e && (is_some f && true))))))
+bounds_parts None b c d e f = refl
+bounds_parts (Some a) None c d e f = refl
+bounds_parts (Some a) (Some b) None d e f = refl
+bounds_parts (Some a) (Some b) (Some c) None e f = refl
+bounds_parts (Some a) (Some b) (Some c) (Some d) None f = refl
+bounds_parts (Some a) (Some b) (Some c) (Some d) (Some e) None = refl
+bounds_parts (Some a) (Some b) (Some c) (Some d) (Some e) (Some f) = refl
 
 ok_where_only : {A E : Type 0} (b : Bool) (r : Result A E) (e : E) → is_ok (if b then r else Err e) ≡ (b && is_ok r)
 ok_where_only true r e = refl
@@ -114,11 +120,13 @@ listen_table held =
     let media = media_bytes_good (at (codes "media_bytes")) in
     let stranger = seconds_good 5 (at (codes "stranger_seconds")) in
     let request = seconds_good 60 (at (codes "request_seconds")) in
-    (λ i. has_only (names_of listen_keys) held && (connections i && (idle i && (media i && (stranger i && (request i && true))))))
+    let follow = follow_millis_good (at (codes "follow_millis")) in
+    (λ i. has_only (names_of listen_keys) held
+    && (connections i && (idle i && (media i && (stranger i && (request i && (follow i && true)))))))
     ∙ ap (λ b. has_only (names_of listen_keys) held && b)
     (sym (bounds_parts (connections_at (at (codes "connections"))) (seconds_at 30 (at (codes "idle_seconds")))
     (media_bytes_at (at (codes "media_bytes"))) (seconds_at 5 (at (codes "stranger_seconds")))
-    (seconds_at 60 (at (codes "request_seconds")))))
+    (seconds_at 60 (at (codes "request_seconds"))) (follow_millis_at (at (codes "follow_millis")))))
     ∙ sym (ok_where_only (has_only (names_of listen_keys) held) _ BadListen)
 
 pub listen_clear : (held : Option Data)

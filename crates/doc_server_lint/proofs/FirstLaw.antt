@@ -17,7 +17,7 @@ use Rattle.doc_server_config.specs.declared.listening.ListeningError.{ListeningE
 use Rattle.doc_server_config.specs.declared.listening.ListeningError.TheVariants.{BadFolder, BadListen, BadName}
 use Rattle.doc_server_config.specs.declared.page_row.PageRow.{PageRow}
 use Rattle.doc_server_config.specs.Bounds.{bounds_at, bounds_in, bounds_of_table, bounds_with, connections_at, idle_seconds_at}
-use Rattle.doc_server_config.specs.Bounds.{media_bytes_at, request_seconds_at, stranger_seconds_at}
+use Rattle.doc_server_config.specs.Bounds.{bounds_keys, follow_millis_at, media_bytes_at, request_seconds_at, stranger_seconds_at}
 use Rattle.doc_server_config.specs.Configurations.{config_of_document, with_pages, with_readers, with_settings}
 use Rattle.doc_server_config.specs.Folders.{folder_of, folders_from}
 use Rattle.doc_server_config.specs.Listenings.{listening_of_document, unless_named, with_bounds, with_folders, with_tables}
@@ -135,13 +135,14 @@ abbrev are_bounds : Result Bounds ListeningError → Bool
 are_bounds (Ok bounds) = true
 are_bounds (Err e) = is_of_bounds e
 
-bounds_parts : (a b c d e : Option ℕ) → are_bounds (bounds_with a b c d e) ≡ true
-bounds_parts None b c d e = refl
-bounds_parts (Some a) None c d e = refl
-bounds_parts (Some a) (Some b) None d e = refl
-bounds_parts (Some a) (Some b) (Some c) None e = refl
-bounds_parts (Some a) (Some b) (Some c) (Some d) None = refl
-bounds_parts (Some a) (Some b) (Some c) (Some d) (Some e) = refl
+bounds_parts : (a b c d e f : Option ℕ) → are_bounds (bounds_with a b c d e f) ≡ true
+bounds_parts None b c d e f = refl
+bounds_parts (Some a) None c d e f = refl
+bounds_parts (Some a) (Some b) None d e f = refl
+bounds_parts (Some a) (Some b) (Some c) None e f = refl
+bounds_parts (Some a) (Some b) (Some c) (Some d) None f = refl
+bounds_parts (Some a) (Some b) (Some c) (Some d) (Some e) None = refl
+bounds_parts (Some a) (Some b) (Some c) (Some d) (Some e) (Some f) = refl
 
 bounds_table : (only : Bool) (bounds : Result Bounds ListeningError) → are_bounds bounds ≡ true
     → are_bounds (if only then bounds else Err BadListen) ≡ true
@@ -157,14 +158,13 @@ bounds_held (Some value) = by (as_table value)
     by (Some table) =
         let at : List ℕ → Option Data = λ key. get_member key table in
         bounds_table
-        (has_only
-        (codes "connections" ∷ codes "idle_seconds" ∷ codes "media_bytes" ∷ codes "stranger_seconds" ∷ codes "request_seconds" ∷ []) table)
+        (has_only bounds_keys table)
         (bounds_with (connections_at (at (codes "connections"))) (idle_seconds_at (at (codes "idle_seconds")))
         (media_bytes_at (at (codes "media_bytes"))) (stranger_seconds_at (at (codes "stranger_seconds")))
-        (request_seconds_at (at (codes "request_seconds"))))
+        (request_seconds_at (at (codes "request_seconds"))) (follow_millis_at (at (codes "follow_millis"))))
         (bounds_parts (connections_at (at (codes "connections"))) (idle_seconds_at (at (codes "idle_seconds")))
         (media_bytes_at (at (codes "media_bytes"))) (stranger_seconds_at (at (codes "stranger_seconds")))
-        (request_seconds_at (at (codes "request_seconds"))))
+        (request_seconds_at (at (codes "request_seconds"))) (follow_millis_at (at (codes "follow_millis"))))
 
 pub bounds_refused : (document : Members) (e : ListeningError) → bounds_in document ≡ Err e → is_of_bounds e ≡ true
 bounds_refused document e is = sym (ap are_bounds is) ∙ bounds_held (get_member (codes "listen") document)

@@ -30,7 +30,8 @@ markdown_keys =
 abbrev pub listen_keys : Keys
 listen_keys =
     (codes "connections", Integer 65535) ∷ (codes "idle_seconds", Integer 86400) ∷ (codes "media_bytes", Integer 1073741824)
-    ∷ (codes "stranger_seconds", Integer 86400) ∷ (codes "request_seconds", Integer 86400) ∷ []
+    ∷ (codes "stranger_seconds", Integer 86400) ∷ (codes "request_seconds", Integer 86400)
+    ∷ (codes "follow_millis", Integer 10000) ∷ []
 
 abbrev pub browse_keys : Keys
 browse_keys =

@@ -84,6 +84,7 @@ pub const LISTEN_KEYS: &[(&str, Rule)] = &[
     ("media_bytes", Rule::Integer(1_073_741_824)),
     ("stranger_seconds", Rule::Integer(86_400)),
     ("request_seconds", Rule::Integer(86_400)),
+    ("follow_millis", Rule::Integer(10_000)),
 ];
 
 /// The keys of the table `browse`.

@@ -7,9 +7,9 @@ use Rattle.doc_http.specs.Requests.{IsNext}
 use Rattle.doc_http.specs.declared.request.Next.{Next}
 use Rattle.doc_http.specs.declared.request.Next.TheVariants as nexts
 use Rattle.doc_http.proofs.LawLemmas.{read_in_one_way}
-use Rattle.doc_hub_answers.specs.Edits.{store_after}
-use Rattle.doc_hub_answers.specs.Replies.{Renders}
-use Rattle.doc_hub_answers.specs.declared.edit.Edit.{Edit}
+use Rattle.doc_hub.specs.Edits.{store_after}
+use Rattle.doc_hub.specs.Replies.{Renders}
+use Rattle.doc_hub.specs.Edit.{Edit}
 use Rattle.doc_hub_events.specs.declared.event.Step.{Step}
 use Rattle.doc_hub_events.specs.declared.event.Step.TheVariants as steps
 use Rattle.doc_hub_events.specs.declared.refusal.StepError.{StepError}

@@ -13,21 +13,21 @@ use Rattle.doc_http_targets.specs.EditTargets as edit_routes
 use Rattle.doc_http_targets.specs.Targets.{Route, route_of}
 use Rattle.doc_http_targets.specs.Targets as routes
 use Rattle.doc_http_targets.specs.WrittenPaths.{path_written}
-use Rattle.doc_hub_answers.specs.Edits.{puts_taken}
-use Rattle.doc_hub_answers.specs.Replies.{Renders, Response, edit_at, method_of, on_route, only_reply, reads, reply_at, response_to}
-use Rattle.doc_hub_answers.specs.declared.edit.Edit.{Edit}
-use Rattle.doc_hub_answers.specs.declared.method.Method.{Method}
-use Rattle.doc_hub_answers.specs.declared.method.Method.TheVariants.{Get, Head, Put, Delete, Post, Other}
-use Rattle.doc_hub_asking.specs.Asking.{Asking}
-use Rattle.doc_hub_asking.specs.Asking as asked
-use Rattle.doc_hub_editing_refusals.specs.Asked.{EditRequest}
-use Rattle.doc_hub_editing_refusals.specs.Asked as requests
-use Rattle.doc_hub_replies.specs.Answers.{is_for_people}
-use Rattle.doc_hub_replies.specs.EditAnswers.{begins_path, by_entry, by_other, by_owner, edit_response, folder_begun, form_at, new_form}
-use Rattle.doc_hub_replies.specs.EditAnswers.{not_found, open_form, read_source, response_by, response_if, source_or_goal}
-use Rattle.doc_hub_replies.specs.EditRequests.{asked_by, at_edit_route}
-use Rattle.doc_hub_replies.specs.EditResponses.{EditingReply, EditingResponse, unless, unmet_by}
-use Rattle.doc_hub_replies.specs.PeopleAnswers.{offers_for}
+use Rattle.doc_hub.specs.Edits.{puts_taken}
+use Rattle.doc_hub.specs.Replies.{Renders, Response, edit_at, method_of, on_route, only_reply, reads, reply_at, response_to}
+use Rattle.doc_hub.specs.Edit.{Edit}
+use Rattle.doc_hub.specs.Method.{Method}
+use Rattle.doc_hub.specs.Method.TheVariants.{Get, Head, Put, Delete, Post, Other}
+use Rattle.doc_hub.specs.Asking.{Asking}
+use Rattle.doc_hub.specs.Asking as asked
+use Rattle.doc_hub.specs.Asked.{EditRequest}
+use Rattle.doc_hub.specs.Asked as requests
+use Rattle.doc_hub.specs.Answers.{is_for_people}
+use Rattle.doc_hub.specs.EditAnswers.{begins_path, by_entry, by_other, by_owner, edit_response, folder_begun, form_at, new_form}
+use Rattle.doc_hub.specs.EditAnswers.{not_found, open_form, read_source, response_by, response_if, source_or_goal}
+use Rattle.doc_hub.specs.EditRequests.{asked_by, at_edit_route}
+use Rattle.doc_hub.specs.EditResponses.{EditingReply, EditingResponse, unless, unmet_by}
+use Rattle.doc_hub.specs.PeopleAnswers.{offers_for}
 use Rattle.doc_hub.specs.Worlds.{World, answer_in, asking_of, reader_of}
 use Rattle.doc_hub.proofs.AnswerEdits.{HoldsFor, answer_holds}
 

@@ -14,10 +14,10 @@ use Rattle.doc_http.specs.Requests.{IsNext}
 use Rattle.doc_http.specs.declared.request.Request.{Request}
 use Rattle.doc_http.specs.declared.request.Next.{Next}
 use Rattle.doc_http.specs.declared.request.Next.TheVariants as nexts
-use Rattle.doc_hub_answers.specs.Edits.{CanBeMade, CanRegroup, puts_left}
-use Rattle.doc_hub_answers.specs.Replies.{Renders}
-use Rattle.doc_hub_answers.specs.declared.edit.Edit.{Edit}
-use Rattle.doc_hub_answers.specs.declared.edit.Edit.TheVariants as edits
+use Rattle.doc_hub.specs.Edits.{CanBeMade, CanRegroup, puts_left}
+use Rattle.doc_hub.specs.Replies.{Renders}
+use Rattle.doc_hub.specs.Edit.{Edit}
+use Rattle.doc_hub.specs.Edit.TheVariants as edits
 use Rattle.doc_hub.specs.StepEdits.{TellsAt, edit_of_step}
 use Rattle.doc_hub.specs.Worlds.{World, answer_in, asking_of}
 use Rattle.doc_hub.specs.declared.connection.Connection.{Connection}

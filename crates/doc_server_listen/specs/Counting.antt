@@ -3,7 +3,7 @@ use Rattle.std.specs.Prelude.{◌≡◌, ◌≤◌, ◌+◌, ◌*◌, ℕ, List,
 use Rattle.std.specs.FinMap as map
 use Rattle.doc_store.specs.Store.{page_limit}
 use Rattle.doc_store.specs.declared.site_edit.SiteEdit.{SiteEdit}
-use Rattle.doc_hub_answers.specs.Replies.{Renders}
+use Rattle.doc_hub.specs.Replies.{Renders}
 use Rattle.doc_hub.specs.RunParts.{served_by}
 use Rattle.doc_hub.specs.Runs.{Happened, Runs}
 use Rattle.doc_hub.specs.Worlds.{World}

@@ -7,12 +7,12 @@ use Rattle.doc_store_readers.specs.Groups.{IsGroups}
 use Rattle.doc_store.specs.Store.{move_page, set_page, remove_page}
 use Rattle.doc_store.specs.declared.site_edit.SiteEdit.{SiteEdit}
 use Rattle.doc_hub.specs.EditLaws.{Makes}
-use Rattle.doc_hub_answers.specs.Replies.{Renders}
+use Rattle.doc_hub.specs.Replies.{Renders}
 use Rattle.doc_hub.specs.Runs.{Happened}
 use Rattle.doc_hub.specs.StepEdits.{StepTells}
 use Rattle.doc_hub.specs.Worlds.{World}
-use Rattle.doc_hub_answers.specs.declared.edit.Edit.{Edit}
-use Rattle.doc_hub_answers.specs.declared.edit.Edit.TheVariants as edits
+use Rattle.doc_hub.specs.Edit.{Edit}
+use Rattle.doc_hub.specs.Edit.TheVariants as edits
 use Rattle.doc_hub_events.specs.declared.event.Event.{Event}
 use Rattle.doc_hub_events.specs.declared.event.ConnectionEvent.TheVariants as calls
 use Rattle.doc_hub_events.specs.declared.event.Event.TheVariants as events

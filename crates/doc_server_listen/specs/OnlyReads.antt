@@ -4,7 +4,7 @@ use Rattle.std.specs.FinMap as map
 use Rattle.doc_http.specs.Requests.{IsNext}
 use Rattle.doc_http.specs.declared.request.Next.{Next}
 use Rattle.doc_http.specs.declared.request.Next.TheVariants as nexts
-use Rattle.doc_hub_answers.specs.Replies.{Renders, method_of, reads}
+use Rattle.doc_hub.specs.Replies.{Renders, method_of, reads}
 use Rattle.doc_hub_events.specs.Events.{step_on}
 use Rattle.doc_hub_events.specs.declared.event.ConnId.{ConnId}
 use Rattle.doc_hub_events.specs.declared.event.Step.{Step}

@@ -12,10 +12,10 @@ ghost use Rattle.doc_server_listen.specs.Edits.{Adds, MakesIn, NamesGroups, Take
 ghost use Rattle.doc_server_listen.specs.OnlyReads.{StepOnlyReads};
 ghost use Rattle.doc_store.specs.Store.{set_page};
 
+use doc_hub::edit::Edit;
 use doc_hub::event::{ConnId, Step};
 use doc_hub::hub::Hub;
 use doc_hub::refusal::StepError;
-use doc_hub_answers::edit::Edit;
 use doc_page::renderer::Renderer;
 use doc_page_parts::failure::Memory;
 use doc_page_parts::heap::{Heap, String};

@@ -4,7 +4,7 @@ ghost use Rattle.std.specs.Prelude.{◌≡◌, true};
 ghost use Rattle.doc_server_listen.specs.OnlyReads.{OnlyReads, ReadsOnly};
 
 use doc_http::request::{Next, next_request};
-use doc_hub_answers::method::Method;
+use doc_hub::method::Method;
 use doc_page_parts::heap::Heap;
 
 /// Whether the next step on a connection with these unread bytes is of a request that only reads, or of none. `false` where that isn't

@@ -6,7 +6,7 @@ use Rattle.std.proofs.lemmas.List.Elements.{All-weaker, Contains-append_left, Co
 use Rattle.doc_hub.proofs.MediaLaws.{media_stand_apart}
 use Rattle.doc_hub.specs.Runs.{Happened, Happens}
 use Rattle.doc_hub.specs.Worlds.{IsApart, World, store_of, with_media, with_store}
-use Rattle.doc_hub_answers.specs.Replies.{Renders}
+use Rattle.doc_hub.specs.Replies.{Renders}
 use Rattle.doc_hub_events.specs.Events.{disconnect_on, push_on}
 use Rattle.doc_hub_events.specs.declared.event.ConnId.{ConnId}
 use Rattle.doc_hub_events.specs.declared.event.Event.{Event}

@@ -10,7 +10,7 @@ use Rattle.doc_store_readers.specs.Sites.{Site}
 use Rattle.doc_hub.proofs.MediaLaws.{media_stand_apart}
 use Rattle.doc_hub.specs.Runs.{Happened, Happens, Leaves, Runs, first, nothing}
 use Rattle.doc_hub.specs.Worlds.{IsApart, World}
-use Rattle.doc_hub_answers.specs.Replies.{Renders}
+use Rattle.doc_hub.specs.Replies.{Renders}
 use Rattle.doc_hub_events.specs.Events.{step_on, stepping}
 use Rattle.doc_hub_events.specs.declared.event.ConnId.{ConnId}
 use Rattle.doc_hub_events.specs.declared.event.Step.{Step}

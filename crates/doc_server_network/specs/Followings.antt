@@ -1,6 +1,6 @@
 -- What following another server does to a hub. All of this is this project's choice.
 use Rattle.std.specs.Prelude.{◌≡◌, ◌≢◌, List, ℕ, Bool, true, All, Err}
-use Rattle.doc_hub_answers.specs.Replies.{Renders}
+use Rattle.doc_hub.specs.Replies.{Renders}
 use Rattle.doc_hub.specs.Runs.{Happened, Runs}
 use Rattle.doc_hub.specs.Worlds.{World, store_of, with_store}
 use Rattle.doc_media.specs.Media.{Media}

@@ -5,7 +5,7 @@ use Rattle.std.specs.FinMap as map
 use Rattle.std.specs.List.{filter}
 use Rattle.doc_hub.specs.Runs.{Happened, Runs}
 use Rattle.doc_hub.specs.Worlds.{IsApart, World, are_apart, store_of, with_media}
-use Rattle.doc_hub_answers.specs.Replies.{Renders}
+use Rattle.doc_hub.specs.Replies.{Renders}
 use Rattle.doc_hub_events.specs.declared.event.Event.{Event}
 use Rattle.doc_hub_events.specs.declared.event.Event.TheVariants as events
 use Rattle.doc_hub_events.specs.declared.refusal.MediaSetError.{MediaSetError}

@@ -11,7 +11,7 @@ use Rattle.doc_store.specs.declared.site_edit.SiteEdit.TheVariants as site_edits
 use Rattle.doc_store.specs.declared.store.EditError.TheVariants as edit_errors
 use Rattle.doc_http.specs.declared.request.Request.{Request}
 use Rattle.doc_http.specs.declared.request.Next.TheVariants as nexts
-use Rattle.doc_hub_answers.specs.Replies.{Renders}
+use Rattle.doc_hub.specs.Replies.{Renders}
 use Rattle.doc_hub_events.specs.Events.{Said, SaidSite}
 use Rattle.doc_hub_events.specs.declared.event.Event.{Event}
 use Rattle.doc_hub_events.specs.declared.event.Event.TheVariants as events

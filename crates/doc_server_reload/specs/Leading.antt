@@ -1,7 +1,7 @@
 -- A reload's edits, made on a hub. All of this is this project's choice.
 use Rattle.std.specs.Prelude.{List, All, Contains}
 use Rattle.doc_store.specs.declared.site_edit.SiteEdit.{SiteEdit}
-use Rattle.doc_hub_answers.specs.Replies.{Renders}
+use Rattle.doc_hub.specs.Replies.{Renders}
 use Rattle.doc_hub_events.specs.declared.event.Event.{Event}
 use Rattle.doc_hub_events.specs.declared.event.Event.TheVariants as events
 use Rattle.doc_hub.specs.Runs.{Happened, Runs}

@@ -4,7 +4,7 @@ use Rattle.doc_store.specs.Store.{StoreState}
 use Rattle.doc_media.specs.Media.{Media}
 use Rattle.doc_store.specs.declared.site_edit.SiteEdit.{SiteEdit}
 use Rattle.doc_hub_events.specs.declared.event.Event.{Event}
-use Rattle.doc_hub_answers.specs.Replies.{Renders}
+use Rattle.doc_hub.specs.Replies.{Renders}
 use Rattle.doc_hub.specs.Worlds.{World, store_of, with_store}
 use Rattle.doc_server_restore.specs.Restores.{edit_in, edits_in, made}
 

@@ -11,7 +11,7 @@ use Rattle.doc_http.specs.declared.request.Next.TheVariants as nexts
 use Rattle.doc_http.specs.Requests.{IsNext}
 use Rattle.doc_http.proofs.TakenLemmas.{takes_bytes}
 use Rattle.doc_hub.specs.Connections.{Connections, backlog_limit, pushed_at, with_pushed}
-use Rattle.doc_hub_answers.specs.Replies.{Renders}
+use Rattle.doc_hub.specs.Replies.{Renders}
 use Rattle.doc_hub.specs.Runs.{Happens}
 use Rattle.doc_hub.specs.StepLaws.{connection}
 use Rattle.doc_hub.specs.Worlds.{World, answer_in, world_after, with_finished, stepped_by, step_said, Stays, Answers, StepsAt}

@@ -1,6 +1,6 @@
 -- What a round does to the hub and to its links.
 use Rattle.std.specs.Prelude.{◌≡◌, ℕ, ◌+◌, List, [], ◌∷◌, false, nat_lt, All, Some, map, slice_get, if◌then◌else◌}
-use Rattle.doc_hub_answers.specs.Replies.{Renders}
+use Rattle.doc_hub.specs.Replies.{Renders}
 use Rattle.doc_hub.specs.Runs.{Happened, Runs}
 use Rattle.doc_hub.specs.Worlds.{World}
 use Rattle.doc_server_rounds.specs.Peers.{Peer}

@@ -1,7 +1,7 @@
 -- What serving a link does, to the hub and to its stream.
 use Rattle.std.specs.Prelude.{◌≡◌, ◌⊎◌, ⊤, ℕ, List, ◌++◌, length, true, false, All, Option, Some, None, Ok}
 use Rattle.std.specs.Io.KnownBytes.{Appends, Consumes, IsAtEnd}
-use Rattle.doc_hub_answers.specs.Replies.{Renders}
+use Rattle.doc_hub.specs.Replies.{Renders}
 use Rattle.doc_hub.specs.RunParts.{AreOf, Gave, pushed_on}
 use Rattle.doc_hub.specs.Runs.{Happened, Happens, Runs, sent_on}
 use Rattle.doc_hub.specs.StepLaws.{connection}

@@ -4,13 +4,13 @@ use Rattle.std.specs.Prelude.{Option, Some, None, Result, Ok, Err, nat_le, nat_l
 use Rattle.std.specs.FinMap as map
 use Rattle.std.proofs.lemmas.Bool.{eqb-true}
 use Rattle.std.proofs.lemmas.List.Elements.{All-nil}
-use Rattle.doc_hub_answers.specs.Replies.{Renders}
+use Rattle.doc_hub.specs.Replies.{Renders}
 use Rattle.doc_hub_events.specs.Events.{Said, disconnect_on, outcome_of}
 use Rattle.doc_hub_events.specs.declared.event.ConnId.{ConnId}
 use Rattle.doc_hub_events.specs.declared.event.Event.{Event}
 use Rattle.doc_hub_events.specs.declared.event.Event.TheVariants as events
 use Rattle.doc_hub_events.specs.declared.refusal.ConnectError.{ConnectError}
-use Rattle.doc_hub.specs.Runs.{Happened, Happens, nothing, sent_by, sent_on}
+use Rattle.doc_hub.specs.Runs.{Happens, nothing, sent_by, sent_on}
 use Rattle.doc_hub.specs.RunParts.{pushed_by, pushed_on}
 use Rattle.doc_hub.specs.Worlds.{World, last_id}
 use Rattle.doc_server_network.specs.Networks.{Rests, StaysBut}
@@ -18,15 +18,16 @@ use Rattle.doc_server_journal.specs.declared.journal.Journal.{Journal}
 use Rattle.doc_server_network.specs.Saved.{TakesByRoom}
 use Rattle.doc_server_settling.specs.Reserves.{reserve}
 use Rattle.doc_server_serving.specs.Invariants.{AreFree, GoesOn}
-use Rattle.doc_server_serving.specs.Leading.{IsOfPeers, LeadsQuietly, LeadsQuietlyBy}
-use Rattle.doc_server_serving.specs.Wirings.{AreWoken, IsNew, Peer, Table, Wired, WokenAt, new_peer}
-use Rattle.doc_server_serving.proofs.GivenNumbers.{connected_if}
+use Rattle.doc_server_turns.specs.QuietRuns.{IsOfPeers, LeadsQuietly, LeadsQuietlyBy}
+use Rattle.doc_server_turns.specs.Wirings.{AreWoken, IsNew, Peer, Table, Wired, WokenAt, new_peer}
+use Rattle.doc_server_turns.proofs.Sites.{connected_if}
 use Rattle.doc_server_serving.proofs.Going.{goes_quietly, new_on}
-use Rattle.doc_server_serving.proofs.Leading.{leads_by, leads_nowhere, pushes_nothing, sends_nothing}
-use Rattle.doc_server_serving.proofs.LeavingSteps.{get_gone, wired_on}
-use Rattle.doc_server_serving.proofs.Tables.{apart, get_other, get_same, later}
-use Rattle.doc_server_serving.proofs.TurnSteps.{wired_same}
-use Rattle.doc_server_serving.proofs.Wiring.{wired_new, wired_out}
+use Rattle.doc_server_serving.proofs.Leading.{leads_nowhere}
+use Rattle.doc_server_turns.proofs.LeavingSteps.{get_gone, wired_on}
+use Rattle.doc_server_turns.proofs.QuietRuns.{quiet_by_one}
+use Rattle.doc_server_turns.proofs.Tables.{apart, get_other, get_same, later}
+use Rattle.doc_server_turns.proofs.TurnSteps.{wired_same}
+use Rattle.doc_server_turns.proofs.Wiring.{wired_new, wired_out}
 
 -- ---- quiet runs
 
@@ -34,16 +35,6 @@ pub quiet_none : (render : Renders) (w v : World) → v ≡ w → LeadsQuietly r
 quiet_none render w v is =
     subst (LeadsQuietly render w) (sym is)
     (record { leads = leads_nowhere render w; pushes = λ k. refl; sends = λ k. refl })
-
-pub quiet_by_one : (own : Event → Type 0) (render : Renders) (w v : World) (event : Event) (said : Said event) → own event
-    → Happens render w event v said → pushed_by event (outcome_of event said) ≡ [] → sent_by (outcome_of event said) ≡ []
-    → LeadsQuietlyBy own render w v
-quiet_by_one own render w v event said is_own happens pushes sends =
-    let h : Happened = record { world = w; event = event; outcome = outcome_of event said } in record {
-      leads = leads_by own render w v event said is_own happens;
-      pushes = λ k. pushes_nothing k h pushes;
-      sends = λ k. sends_nothing k h sends;
-    }
 
 pub quiet_nowhere : (own : Event → Type 0) (render : Renders) (w : World) → LeadsQuietlyBy own render w w
 quiet_nowhere own render w = record {

@@ -2,11 +2,11 @@
 use Rattle.std.proofs.Common.{◌≡◌, ◌≤◌, ◌<◌, ◌∙◌, ℕ, List, Bool, true, false, inl, inr, sym, arith}
 use Rattle.std.specs.Prelude.{◌⊎◌, Option, Result, Ok, Err, IfErr, nat_lt, not, ◌&&◌}
 use Rattle.doc_hub.specs.Worlds.{World}
-use Rattle.doc_hub_answers.specs.Replies.{Renders}
+use Rattle.doc_hub.specs.Replies.{Renders}
 use Rattle.doc_server_network.specs.Networks.{Call, HasNobody, Recalls, WasAsked, WasWaitedFor}
 use Rattle.doc_server_serving.specs.Doors.{is_open}
 use Rattle.doc_server_serving.specs.Invariants.{GoesOn}
-use Rattle.doc_server_serving.specs.Wirings.{Table}
+use Rattle.doc_server_turns.specs.Wirings.{Table}
 use Rattle.doc_server_serving.specs.declared.door.Door.{Door}
 use Rattle.doc_server_serving.proofs.GivenNumbers.{given_more}
 

@@ -5,7 +5,7 @@ use Rattle.std.specs.FinMap as map
 use Rattle.std.specs.Cmp.{eq_by_cmp_equiv}
 use Rattle.std.specs.Ordering.{eq_by_cmp, nat_cmp}
 use Rattle.std.proofs.lemmas.Cmp.{nat_cmp_total}
-use Rattle.doc_server_serving.specs.Wirings.{Peer, Table}
+use Rattle.doc_server_turns.specs.Wirings.{Peer, Table}
 
 none_some : (p : Peer) → ◌≡◌ {A = Option Peer} None (Some p) → ⊥
 none_some p e = cc

@@ -1,7 +1,7 @@
 -- What a crash leaves, one part of a turn behind the other.
 use Rattle.std.proofs.Common.{◌≡◌, ◌++◌, false, true, ℕ, List, [], inl, inr, refl, sym, ap, subst, ◌∙◌, append-nil, append_assoc}
 use Rattle.std.specs.Prelude.{Bool, IfSome, IsSome, Option, Some, None}
-use Rattle.doc_hub_answers.specs.Replies.{Renders}
+use Rattle.doc_hub.specs.Replies.{Renders}
 use Rattle.doc_hub.specs.Runs.{Happened, Runs, nothing}
 use Rattle.doc_hub.specs.Worlds.{World}
 use Rattle.doc_hub.proofs.RunParts.{runs_join}
@@ -15,7 +15,7 @@ use Rattle.doc_server_network.specs.Saved.{IsSavedIn}
 use Rattle.doc_store.specs.Store.{StoreState}
 use Rattle.doc_server_serving.specs.Crashing.{AreKnown, RestoresFront, RestoresFrontBy}
 use Rattle.doc_server_listen.specs.Sites.{IsSameSite}
-use Rattle.doc_server_serving.proofs.Sites.{restored_too, same_back, same_site}
+use Rattle.doc_server_turns.proofs.Sites.{restored_too, same_back, same_site}
 
 -- ---- sites
 

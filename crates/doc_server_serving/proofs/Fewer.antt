@@ -2,13 +2,13 @@
 use Rattle.std.proofs.Common.{◌≤◌, ℕ, List}
 use Rattle.std.specs.Prelude.{Option}
 use Rattle.std.specs.FinMap as map
-use Rattle.doc_hub_answers.specs.Replies.{Renders}
+use Rattle.doc_hub.specs.Replies.{Renders}
 use Rattle.doc_hub.specs.Worlds.{World}
-use Rattle.doc_server_serving.specs.Turns.{Turns}
-use Rattle.doc_server_serving.specs.Wirings.{Gives, SweptAll, Table}
+use Rattle.doc_server_turns.specs.Turns.{Turns}
+use Rattle.doc_server_turns.specs.Wirings.{Gives, SweptAll, Table}
 use Rattle.doc_server_serving.proofs.Bounds.{no_more}
 use Rattle.doc_server_serving.proofs.Going.{swept_none}
-use Rattle.doc_server_serving.proofs.TurnSteps.{given_none}
+use Rattle.doc_server_turns.proofs.TurnSteps.{given_none}
 
 pub fewer_swept : (t u : Table) → SweptAll t u → map.len u ≤ map.len t
 fewer_swept t u swept = no_more t u (λ k none. swept_none (map.get t k) (map.get u k) (swept k) none)

@@ -6,25 +6,23 @@ use Rattle.std.proofs.lemmas.List.Elements.{All-head, All-tail}
 use Rattle.doc_page_parts.specs.Refusals.{Gives}
 use Rattle.doc_http.specs.declared.request.Next.{Next}
 use Rattle.doc_http.specs.declared.request.Next.TheVariants as nexts
-use Rattle.doc_hub_answers.specs.Replies.{Renders}
+use Rattle.doc_hub.specs.Replies.{Renders}
 use Rattle.doc_hub_events.specs.Events.{Said, SaidOn}
-use Rattle.doc_hub_events.specs.declared.event.ConnId.{ConnId}
 use Rattle.doc_hub_events.specs.declared.event.ConnectionEvent.{ConnectionEvent}
 use Rattle.doc_hub_events.specs.declared.event.ConnectionEvent.TheVariants as calls
 use Rattle.doc_hub_events.specs.declared.event.Event.{Event}
 use Rattle.doc_hub_events.specs.declared.event.Event.TheVariants as events
 use Rattle.doc_hub_events.specs.declared.event.Step.{Step}
 use Rattle.doc_hub_events.specs.declared.event.Step.TheVariants as steps
-use Rattle.doc_hub_events.specs.declared.refusal.ConnectError.{ConnectError}
 use Rattle.doc_hub_events.specs.declared.refusal.ConnectError.TheVariants as connect_errors
 use Rattle.doc_hub_events.specs.declared.refusal.PushError.TheVariants as push_errors
 use Rattle.doc_hub_events.specs.declared.refusal.StepError.{StepError}
 use Rattle.doc_hub_events.specs.declared.refusal.StepError.TheVariants as step_errors
-use Rattle.doc_hub.specs.Connections.{new_connection}
 use Rattle.doc_hub.specs.Runs.{Happened, Happens, HappensOn, Runs, nothing, first}
 use Rattle.doc_hub.specs.Worlds.{World, Answers, Stays, StepsAt, connected, disconnected, last_id, stepped_by, world_pushed}
 use Rattle.doc_hub.specs.declared.connection.Connection.{Connection}
-use Rattle.doc_server_serving.specs.Leading.{IsOfPeers}
+use Rattle.doc_server_turns.specs.QuietRuns.{IsOfPeers}
+use Rattle.doc_server_turns.proofs.Sites.{connected_if}
 
 abbrev NoFewer : World → World → Type 0
 NoFewer w v = w.given ≤ v.given
@@ -49,13 +47,6 @@ by_equation {S = S} given w v said more is = subst (λ (q : World × S). NoFewer
 
 by_stay : (w v : World) → v ≡ w → NoFewer w v
 by_stay w v is = subst (NoFewer w) (sym is) (as_many w.given)
-
-abbrev pub connected_if : World → Bool → World × Result ConnId ConnectError
-connected_if w t = if t then (
-  record w { given = w.given + 1; connections = map.insert w.connections (w.given + 1) new_connection },
-  Ok
-      (record { 0 = w.given + 1 }),
-) else (w, Err connect_errors.NoIds)
 
 connect_gives : (w : World) (t : Bool) → NoFewer w (connected_if w t).0
 connect_gives w true = one_more w.given

@@ -3,7 +3,7 @@ use Rattle.std.proofs.Common.{◌≡◌, ◌≤◌, ◌<◌, ◌++◌, ℕ, List
 use Rattle.std.specs.Prelude.{Option, Some, None, IfSome}
 use Rattle.std.specs.FinMap as map
 use Rattle.std.proofs.lemmas.List.Elements.{All-weaker}
-use Rattle.doc_hub_answers.specs.Replies.{Renders}
+use Rattle.doc_hub.specs.Replies.{Renders}
 use Rattle.doc_hub.specs.Runs.{sent_on}
 use Rattle.doc_hub.specs.RunParts.{pushed_on}
 use Rattle.doc_hub.specs.Worlds.{World}
@@ -11,16 +11,17 @@ use Rattle.doc_hub.proofs.RunParts.{pushed_join, pushed_of, sent_join, sent_of}
 use Rattle.doc_server_network.specs.Networks.{Rests, Stays}
 use Rattle.doc_hub_events.specs.declared.event.Event.{Event}
 use Rattle.doc_server_serving.specs.Invariants.{AreFree, AreWired, GoesOn, GoesOnBy, HasServedNobody, IsServed}
-use Rattle.doc_server_serving.specs.Leading.{IsOfPeers, Leads, LeadsQuietlyBy}
-use Rattle.doc_server_serving.specs.Turns.{Turns}
-use Rattle.doc_server_serving.specs.Wirings.{AreWoken, Gives, IsNew, Peer, SweptAll, SweptAt, Table, Wired, WokenAt, new_peer}
+use Rattle.doc_server_turns.specs.QuietRuns.{IsOfPeers, Leads, LeadsQuietlyBy}
+use Rattle.doc_server_turns.specs.Turns.{Turns}
+use Rattle.doc_server_turns.specs.Wirings.{AreWoken, Gives, IsNew, Peer, SweptAll, SweptAt, Table, Wired, WokenAt, new_peer}
 use Rattle.doc_server_serving.proofs.GivenNumbers.{given_more}
-use Rattle.doc_server_serving.proofs.Leading.{IsOwn, leads_nowhere, leads_on, leads_wider, of_peers}
-use Rattle.doc_server_serving.proofs.LeavingSteps.{wired_on}
-use Rattle.doc_server_serving.proofs.TableServing.{IsOfAny}
-use Rattle.doc_server_serving.proofs.Tables.{some_none}
-use Rattle.doc_server_serving.proofs.TurnSteps.{given_none, wired_same}
-use Rattle.doc_server_serving.proofs.Wiring.{swept_takes_in, wired_given, wired_new, wired_out, wired_taken}
+use Rattle.doc_server_serving.proofs.Leading.{IsOwn, leads_nowhere, leads_wider, of_peers}
+use Rattle.doc_server_turns.proofs.QuietRuns.{leads_on}
+use Rattle.doc_server_turns.proofs.LeavingSteps.{wired_on}
+use Rattle.doc_server_turns.proofs.TableServing.{IsOfAny}
+use Rattle.doc_server_turns.proofs.Tables.{some_none}
+use Rattle.doc_server_turns.proofs.TurnSteps.{given_none, wired_same}
+use Rattle.doc_server_turns.proofs.Wiring.{swept_takes_in, wired_given, wired_new, wired_out, wired_taken}
 
 -- ---- numbers that aren't given yet
 

@@ -2,7 +2,7 @@
 use Rattle.std.proofs.Common.{◌≡◌, ◌++◌, ℕ, List, Bool, refl, sym, ap, subst, ◌∙◌, append_assoc, nat_cmp}
 use Rattle.std.specs.Prelude.{Option}
 use Rattle.std.specs.FinMap as map
-use Rattle.doc_hub_answers.specs.Replies.{Renders}
+use Rattle.doc_hub.specs.Replies.{Renders}
 use Rattle.doc_hub.specs.Runs.{Happened, Runs}
 use Rattle.doc_hub.specs.Worlds.{World, store_of}
 use Rattle.doc_hub.proofs.RunParts.{runs_join}
@@ -12,9 +12,10 @@ use Rattle.doc_server_network.specs.declared.saved_hub.SavedHub.{SavedHub}
 use Rattle.doc_server_serving.specs.Crashing.{AreKnown, RestoresFront, RestoresFrontBy}
 use Rattle.doc_server_serving.specs.Forces.{AreAllOfCalls, IsInForce, IsSettledInForce}
 use Rattle.doc_server_serving.specs.Invariants.{HasServedNobody, IsServed}
-use Rattle.doc_server_serving.specs.Leading.{LeadsQuietly, LeadsWith}
+use Rattle.doc_server_serving.specs.Leading.{LeadsWith}
+use Rattle.doc_server_turns.specs.QuietRuns.{LeadsQuietly}
 use Rattle.doc_server_serving.proofs.Crashing.{leaves_weaker}
-use Rattle.doc_server_serving.specs.Wirings.{Table}
+use Rattle.doc_server_turns.specs.Wirings.{Table}
 use Rattle.doc_server_serving.specs.declared.given.Given.{Given}
 use Rattle.doc_store.specs.Store.{StoreState}
 use Rattle.doc_server_serving.specs.Hostings.{IsHosted, IsMadeReady}

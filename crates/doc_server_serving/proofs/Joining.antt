@@ -2,7 +2,7 @@
 use Rattle.std.proofs.Common.{◌≡◌, ◌++◌, ℕ, List, [], ◌∷◌, Bool, refl, sym, ap, subst, ◌∙◌}
 use Rattle.std.specs.Prelude.{Option}
 use Rattle.std.proofs.lemmas.List.Elements.{All-append, All-cons, All-nil, All-weaker}
-use Rattle.doc_hub_answers.specs.Replies.{Renders}
+use Rattle.doc_hub.specs.Replies.{Renders}
 use Rattle.doc_hub_events.specs.Events.{outcome_of}
 use Rattle.doc_hub_events.specs.declared.event.Event.TheVariants as events
 use Rattle.doc_hub.specs.RunParts.{pushed_on}
@@ -10,8 +10,9 @@ use Rattle.doc_hub.specs.Runs.{Happened, Runs, first, nothing, sent_on}
 use Rattle.doc_hub.specs.Worlds.{World, world_taking}
 use Rattle.doc_hub.proofs.RunParts.{pushed_join, runs_join, sent_join}
 use Rattle.doc_server_serving.specs.Invariants.{IsServed}
-use Rattle.doc_server_serving.specs.Leading.{IsOfPeers, IsOfServer, LeadsQuietly, LeadsWith}
-use Rattle.doc_server_serving.specs.Wirings.{HearsFront, IsFront}
+use Rattle.doc_server_serving.specs.Leading.{IsOfServer, LeadsWith}
+use Rattle.doc_server_turns.specs.QuietRuns.{IsOfPeers, LeadsQuietly}
+use Rattle.doc_server_turns.specs.Wirings.{HearsFront, IsFront}
 use Rattle.doc_server_serving.specs.declared.given.Given.{Given}
 use Rattle.doc_server_serving.proofs.Leading.{peers_serve}
 

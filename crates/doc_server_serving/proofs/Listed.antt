@@ -12,9 +12,9 @@ use Rattle.std.proofs.lemmas.Bool.Decides.{nat_tests}
 use Rattle.std.proofs.lemmas.List.Elements.{Contains-append_right}
 use Rattle.std.proofs.lemmas.List.Sums.{sum_by-append, sum_by-cons}
 use Rattle.doc_page_parts.proofs.Maps.{find_before, is_sorted_keys}
-use Rattle.doc_server_serving.specs.Parts.{numbers_of, takes_part, takes_part_at, times_among, turn_of}
-use Rattle.doc_server_serving.specs.Wirings.{Peer, Table}
-use Rattle.doc_server_serving.proofs.Walks.{below, from_on}
+use Rattle.doc_server_turns.specs.Parts.{numbers_of, takes_part, takes_part_at, times_among, turn_of}
+use Rattle.doc_server_turns.specs.Wirings.{Peer, Table}
+use Rattle.doc_server_turns.proofs.Walks.{below, from_on}
 
 some_none : (p : Peer) → ◌≡◌ {A = Option Peer} (Some p) None → ⊥
 some_none p e = cc

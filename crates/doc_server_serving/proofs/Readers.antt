@@ -1,11 +1,12 @@
 -- Turns, and what is given between them.
 use Rattle.std.proofs.Common.{◌≡◌, ℕ, List}
 use Rattle.std.specs.Prelude.{Option}
-use Rattle.doc_hub_answers.specs.Replies.{Renders}
+use Rattle.doc_hub.specs.Replies.{Renders}
 use Rattle.doc_hub.specs.Worlds.{World}
 use Rattle.doc_server_serving.specs.Invariants.{GoesOn, GoesOnWith}
-use Rattle.doc_server_serving.specs.Leading.{IsOfPeers, IsOfServer, LeadsQuietly, StayAnswered}
-use Rattle.doc_server_serving.specs.Wirings.{Table}
+use Rattle.doc_server_serving.specs.Leading.{IsOfServer, StayAnswered}
+use Rattle.doc_server_turns.specs.QuietRuns.{IsOfPeers, LeadsQuietly}
+use Rattle.doc_server_turns.specs.Wirings.{Table}
 use Rattle.doc_server_serving.specs.declared.given.Given.{Given}
 use Rattle.doc_server_serving.proofs.Accepting.{goes_silently}
 use Rattle.doc_server_serving.proofs.Going.{goes_on, goes_wider}

@@ -1,32 +1,29 @@
 -- What a reload does to a hub: it is told to nobody's connection.
 use Rattle.std.proofs.Common.{◌≡◌, ◌++◌, ℕ, List, [], Bool, refl, sym, ap, subst, ◌∙◌}
-use Rattle.std.specs.Prelude.{flat_map, Contains, IfSome, Option, Some, None, Result, Ok, Err}
+use Rattle.std.specs.Prelude.{flat_map, Contains, IfSome, Option, Some, None}
 use Rattle.std.proofs.lemmas.List.Elements.{All-weaker}
-use Rattle.doc_hub_answers.specs.Replies.{Renders}
-use Rattle.doc_hub_events.specs.Events.{setting_media}
+use Rattle.doc_hub.specs.Replies.{Renders}
 use Rattle.doc_hub_events.specs.declared.event.Event.{Event}
 use Rattle.doc_hub_events.specs.declared.event.Event.TheVariants as events
 use Rattle.doc_hub_events.specs.declared.event.ReaderEdit.TheVariants as reader_edits
-use Rattle.doc_hub_events.specs.declared.refusal.MediaSetError.{MediaSetError}
-use Rattle.doc_hub_events.specs.declared.refusal.MediaSetError.TheVariants as media_errors
-use Rattle.doc_hub.proofs.RunParts.{pushed_join, sent_join}
-use Rattle.doc_hub.specs.Runs.{Happens, sent_by, sent_on}
-use Rattle.doc_hub.specs.RunParts.{pushed_by, pushed_on}
+use Rattle.doc_hub.specs.Runs.{sent_by}
+use Rattle.doc_hub.specs.RunParts.{pushed_by}
 use Rattle.doc_hub.specs.Worlds.{World, with_media}
 use Rattle.doc_media.specs.Media.{Media}
 use Rattle.doc_server_journal.specs.declared.journal.Journal.{Journal}
-use Rattle.doc_server_network.proofs.QuietEvents.{taken_media}
 use Rattle.doc_server_network.specs.declared.reload_fault.Refusal.{Refusal}
 use Rattle.doc_server_network.specs.declared.reload_fault.Refusal.TheVariants as refusals
 use Rattle.doc_server_network.specs.Leading.{IsOneOf, LeadsByEdits}
-use Rattle.doc_server_network.specs.Reloads.{IsOnTheWay, IsRefusedFor, of_media}
+use Rattle.doc_server_network.specs.Reloads.{IsOnTheWay, IsRefusedFor}
 use Rattle.doc_server_network.specs.Followings.{EditsAlone}
-use Rattle.doc_server_serving.specs.Forces.{IsUnset}
-use Rattle.doc_server_serving.specs.Leading.{IsEdit, IsOfGiven, IsOfLead, IsOfPeers, IsOfReload, IsOfServer, IsSetting, LeadsQuietlyBy}
+use Rattle.doc_server_turns.specs.Settings.{IsUnset}
+use Rattle.doc_server_serving.specs.Leading.{IsEdit, IsOfGiven, IsOfLead, IsOfReload, IsOfServer}
+use Rattle.doc_server_turns.specs.QuietRuns.{IsOfPeers, LeadsQuietlyBy}
+use Rattle.doc_server_turns.specs.Settings.{IsSetting}
 use Rattle.doc_server_serving.specs.declared.given.Configuration.{Configuration}
 use Rattle.doc_server_serving.specs.declared.given.Given.{Given}
 use Rattle.doc_server_serving.specs.declared.given.Given.TheVariants as givens
-use Rattle.doc_server_serving.proofs.Leading.{leads_on, leads_wider, nothing_on}
+use Rattle.doc_server_serving.proofs.Leading.{leads_wider, nothing_on}
 use Rattle.doc_store.specs.Store.{StoreState}
 use Rattle.doc_store.specs.declared.site_edit.SiteEdit.{SiteEdit}
 
@@ -36,24 +33,10 @@ pub quiet_wider : (own more : Event → Type 0) (render : Renders) (w v : World)
 quiet_wider own more render w v wider a =
     record { leads = leads_wider own more render w v wider a.leads; pushes = a.pushes; sends = a.sends }
 
--- one behind the other
-pub quiet_join : (own : Event → Type 0) (render page : Renders) (w v u : World) → page ≡ render → LeadsQuietlyBy own render w v
-    → LeadsQuietlyBy own page v u → LeadsQuietlyBy own render w u
-quiet_join own render page w v u same a b = record {
-  leads = leads_on own render page w v u same a.leads b.leads;
-  pushes = λ k. pushed_join k a.leads.run b.leads.run ∙ ap (λ l. l ++ pushed_on k b.leads.run) (a.pushes k) ∙ b.pushes k;
-  sends = λ k. sent_join k a.leads.run b.leads.run ∙ ap (λ l. l ++ sent_on k b.leads.run) (a.sends k) ∙ b.sends k;
-}
-
 -- where there is something, what follows from what holds there
 pub if_weaker : {A : Type 0} (o : Option A) (P Q : Type 0) → (P → Q) → IfSome o (λ _. P) → IfSome o (λ _. Q)
 if_weaker None P Q so is = tt
 if_weaker (Some x) P Q so is = so is
-
--- media are set to nobody's connection
-pub none_sent : (said : Result (Unit {0}) MediaSetError) → sent_by (setting_media said) ≡ []
-none_sent (Ok fine) = refl
-none_sent (Err e) = refl
 
 -- what sets the readers and the media of a configuration is of it
 pub setting_reloads : (given : Configuration) (e : Event) → IsSetting given.readers given.media e → IsOfReload given e
@@ -75,11 +58,6 @@ unset_refused seen may_leave failed stale config w media journal refusals.Memory
 unset_refused seen may_leave failed stale config w media journal refusals.Other is = absurd is
 unset_refused seen may_leave failed stale config w media journal refusals.Full is = absurd is
 unset_refused seen may_leave failed stale config w media journal (refusals.Record fault) is = absurd is
-
-pub unset_by : (render : Renders) (w v : World) (media : Media) (e : MediaSetError) → Happens render w (events.SetMedia media) v (Err e)
-    → IsUnset w media (of_media e)
-unset_by render w v media media_errors.Taken happens = taken_media render w v media happens
-unset_by render w v media media_errors.Memory happens = tt
 
 -- the edits of a part of a reload
 module _ (edits part : List SiteEdit) (some : (edit : SiteEdit) → Contains part edit → Contains edits edit) where

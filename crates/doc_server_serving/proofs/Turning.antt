@@ -1,15 +1,15 @@
 -- How a turn begins.
 use Rattle.std.proofs.Common.{◌≡◌, ℕ, List}
 use Rattle.std.specs.Prelude.{Option}
-use Rattle.doc_hub_answers.specs.Replies.{Renders}
+use Rattle.doc_hub.specs.Replies.{Renders}
 use Rattle.doc_hub.specs.Worlds.{World}
 use Rattle.doc_server_network.specs.Networks.{Rests, Stays}
 use Rattle.doc_server_serving.specs.Invariants.{GoesOn}
-use Rattle.doc_server_serving.specs.Leading.{LeadsQuietly}
-use Rattle.doc_server_serving.specs.Wirings.{AreWoken, Gives, Table}
+use Rattle.doc_server_turns.specs.QuietRuns.{LeadsQuietly}
+use Rattle.doc_server_turns.specs.Wirings.{AreWoken, Gives, Table}
 use Rattle.doc_server_serving.proofs.Accepting.{goes_silently}
 use Rattle.doc_server_serving.proofs.Going.{goes_join, goes_nowhere, goes_told}
-use Rattle.doc_server_serving.proofs.Tables.{woken_same}
+use Rattle.doc_server_turns.proofs.Tables.{woken_same}
 
 module _ {N R : Type 0} (page : R → Renders) (came gone : N → ℕ → Option (List ℕ)) (wakes is_free : N → ℕ → Type 0) where
   -- the network is waited for

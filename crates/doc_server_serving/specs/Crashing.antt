@@ -1,6 +1,6 @@
 -- What a crash leaves while a server serves.
 use Rattle.std.specs.Prelude.{◌≡◌, ◌++◌, ℕ, List, Option, IsSome}
-use Rattle.doc_hub_answers.specs.Replies.{Renders}
+use Rattle.doc_hub.specs.Replies.{Renders}
 use Rattle.doc_hub.specs.Runs.{Happened, Runs}
 use Rattle.doc_hub.specs.Worlds.{World}
 use Rattle.doc_server_network.specs.Crashes.{Restores}

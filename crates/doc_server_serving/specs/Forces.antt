@@ -1,14 +1,11 @@
 -- The configuration in force, and what becomes of one that is given. All of this is this project's choice.
-use Rattle.std.specs.Prelude.{◌≡◌, ◌⊎◌, ⊤, ℕ, List, Bool, false, Option, Some, None, Result, Ok, Err}
-use Rattle.doc_hub.specs.Worlds.{World, are_apart, store_of, with_media, with_store}
+use Rattle.std.specs.Prelude.{◌≡◌, ◌⊎◌, ⊤, ℕ, List, Bool, Option, Some, None, Result, Ok, Err}
+use Rattle.doc_hub.specs.Worlds.{World, store_of, with_media, with_store}
 use Rattle.doc_server_journal.specs.declared.journal.Journal.{Journal}
-use Rattle.doc_media.specs.Media.{Media}
 use Rattle.doc_server_network.specs.KeptTurns.{IsOfCalls}
-use Rattle.doc_server_network.specs.Readers.{ReaderTable}
 use Rattle.doc_server_network.specs.Reloads.{IsRefusedFor, IsRestarted, pages_alone}
 use Rattle.doc_server_network.specs.Saved.{IsSettled}
 use Rattle.doc_server_network.specs.declared.reload_fault.Refusal.{Refusal}
-use Rattle.doc_server_network.specs.declared.reload_fault.Refusal.TheVariants as refusals
 use Rattle.doc_server_network.specs.declared.reloaded.Reloaded.{Reloaded}
 use Rattle.doc_server_network.specs.declared.saved_hub.SavedHub.{SavedHub}
 use Rattle.doc_server_serving.specs.declared.given.Configuration.{Configuration}
@@ -40,16 +37,6 @@ pub record AreFollowed {D : Type 0} (texts : List (List ℕ)) (before behind : W
   pub gives : restored before.media (store_of before) texts ≡ Ok (store_of behind)
   pub others : behind ≡ with_store before (store_of behind)
   pub alone : journal ≡ None
-
--- the world beside these media, with these readers
-abbrev pub with_both : World → ReaderTable → Media → World
-with_both w readers media = record (with_media w media) { readers = readers }
-
--- why media weren't set
-abbrev pub IsUnset : World → Media → Refusal → Type 0
-IsUnset w media refusals.Taken = are_apart w.site media ≡ false
-IsUnset w media refusals.Memory = ⊤
-IsUnset w media refusal = ⊥
 
 module _ {D : Type 0} (seen : D → Option (List ℕ)) (may_leave : D → List ℕ → Type 0) (failed : D → Bool) (stale : D → ℕ
     → Type 0) where

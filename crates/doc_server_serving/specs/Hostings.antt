@@ -1,7 +1,7 @@
 -- What serving a site on a host promises. All of this is this project's choice.
 use Rattle.std.specs.Prelude.{◌≡◌, ℕ, List, Bool, Option, Some, None, IfSome, is_some, Ok}
 use Rattle.doc_hub.specs.Worlds.{IsApart, World, store_of, with_store, world_taking}
-use Rattle.doc_hub_answers.specs.Replies.{Renders}
+use Rattle.doc_hub.specs.Replies.{Renders}
 use Rattle.doc_server_journal.specs.declared.journal.Journal.{Journal}
 use Rattle.doc_server_journal_records.specs.Readings.{ReadsAs}
 use Rattle.doc_server_network.specs.KeptTurns.{IsOfCalls}
@@ -12,7 +12,8 @@ use Rattle.doc_server_network.specs.declared.saved_hub.SavedHub.{SavedHub}
 use Rattle.doc_server_serving.specs.Crashing.{AreKnown, RestoresFrontBy}
 use Rattle.doc_server_serving.specs.Forces.{AreAllOfCalls, IsInForce, IsSettledInForce}
 use Rattle.doc_server_serving.specs.Invariants.{IsServed}
-use Rattle.doc_server_serving.specs.Leading.{LeadsQuietly, LeadsWith}
+use Rattle.doc_server_serving.specs.Leading.{LeadsWith}
+use Rattle.doc_server_turns.specs.QuietRuns.{LeadsQuietly}
 use Rattle.doc_server_serving.specs.declared.given.Given.{Given}
 
 -- puts are taken from here on, or aren't

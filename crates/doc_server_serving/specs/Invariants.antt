@@ -1,14 +1,15 @@
 -- What holds between turns, and what serving promises.
 use Rattle.std.specs.Prelude.{◌≡◌, ◌++◌, ◌<◌, ℕ, List, [], Option}
 use Rattle.std.specs.FinMap as map
-use Rattle.doc_hub_answers.specs.Replies.{Renders}
+use Rattle.doc_hub.specs.Replies.{Renders}
 use Rattle.doc_hub.specs.Runs.{Happened, sent_on}
 use Rattle.doc_hub.specs.RunParts.{pushed_on}
 use Rattle.doc_hub.specs.Worlds.{World}
 use Rattle.doc_hub_events.specs.declared.event.Event.{Event}
-use Rattle.doc_server_serving.specs.Leading.{IsOfPeers, IsOfServer, LeadsBy}
+use Rattle.doc_server_serving.specs.Leading.{IsOfServer}
+use Rattle.doc_server_turns.specs.QuietRuns.{IsOfPeers, LeadsBy}
 use Rattle.doc_server_serving.specs.declared.given.Given.{Given}
-use Rattle.doc_server_serving.specs.Wirings.{AreWoken, HearsFront, IsFront, IsNew, Table, Wired}
+use Rattle.doc_server_turns.specs.Wirings.{AreWoken, HearsFront, IsFront, IsNew, Table, Wired}
 
 -- the numbers that a hub hasn't given yet have had no connection
 abbrev pub AreFree : ℕ → (ℕ → Type 0) → Type 0

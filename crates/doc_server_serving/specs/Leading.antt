@@ -1,32 +1,16 @@
--- What serving does to a hub.
+-- What serving does to a hub, whose runs are those of `doc_server_turns`.
 use Rattle.std.specs.Prelude.{◌≡◌, ⊤, ℕ, List, [], All, Contains, Option, Some}
-use Rattle.doc_hub_answers.specs.Replies.{Renders}
-use Rattle.doc_hub.specs.Runs.{Happened, Runs, sent_on}
-use Rattle.doc_hub.specs.RunParts.{pushed_on}
+use Rattle.doc_hub.specs.Replies.{Renders}
 use Rattle.doc_hub_events.specs.declared.event.Event.{Event}
 use Rattle.doc_hub_events.specs.declared.event.Event.TheVariants as events
 use Rattle.doc_hub_events.specs.declared.event.ReaderEdit.TheVariants as reader_edits
 use Rattle.doc_hub.specs.Worlds.{World}
-use Rattle.doc_media.specs.Media.{Media}
-use Rattle.doc_server_network.specs.Readers.{ReaderTable}
 use Rattle.doc_server_network.specs.Reloads.{IsOnTheWay}
 use Rattle.doc_server_serving.specs.declared.given.Configuration.{Configuration}
 use Rattle.doc_server_serving.specs.declared.given.Given.{Given}
 use Rattle.doc_server_serving.specs.declared.given.Given.TheVariants as givens
+use Rattle.doc_server_turns.specs.QuietRuns.{IsOfPeers, LeadsBy}
 use Rattle.doc_store.specs.declared.site_edit.SiteEdit.{SiteEdit}
-
--- a connect, a push, a step or a disconnect, or whether puts are taken
-abbrev pub IsOfPeers : Event → Type 0
-IsOfPeers events.Connect = ⊤
-IsOfPeers (events.On id call) = ⊤
-IsOfPeers (events.TakePuts takes) = ⊤
-IsOfPeers event = ⊥
-
--- these readers are set, or these media
-abbrev pub IsSetting : ReaderTable → Media → Event → Type 0
-IsSetting readers media (events.Reader (reader_edits.All set)) = set ≡ readers
-IsSetting readers media (events.SetMedia set) = set ≡ media
-IsSetting readers media event = ⊥
 
 -- the readers of a configuration, all at once, or its media; or an edit on the way to what a start over its pages would serve
 abbrev pub IsOfConfiguration : Configuration → Event → Type 0
@@ -65,26 +49,8 @@ IsOfReload given (events.Site edit) = IsOfConfiguration given (events.Site edit)
 IsOfReload given (events.SetMedia media) = IsOfConfiguration given (events.SetMedia media)
 IsOfReload given event = IsOfPeers event
 
--- a run of such events alone leads from one world to the other
-pub record LeadsBy (Own : Event → Type 0) (render : Renders) (w v : World) : Type 0 where
-  pub run : List Happened
-  pub runs : Runs render w run v
-  pub own : All (λ h. Own h.event) run
-
-abbrev pub Leads : Renders → World → World → Type 0
-Leads render w v = LeadsBy IsOfPeers render w v
-
 abbrev pub LeadsWith : (Option Given → Type 0) → Renders → World → World → Type 0
 LeadsWith answered render w v = LeadsBy (IsOfServer answered) render w v
-
--- one that pushes nothing to anybody's connection, and sends nothing there
-pub record LeadsQuietlyBy (own : Event → Type 0) (render : Renders) (w v : World) : Type 0 where
-  pub leads : LeadsBy own render w v
-  pub pushes : (k : ℕ) → pushed_on k leads.run ≡ []
-  pub sends : (k : ℕ) → sent_on k leads.run ≡ []
-
-abbrev pub LeadsQuietly : Renders → World → World → Type 0
-LeadsQuietly render w v = LeadsQuietlyBy IsOfPeers render w v
 
 -- each answer before was given behind it
 abbrev pub StayAnswered : (Option Given → Type 0) → (Option Given → Type 0) → Type 0

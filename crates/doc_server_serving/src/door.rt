@@ -6,19 +6,19 @@ ghost use Rattle.std.specs.Prelude.{◌≡◌, ◌≤◌, ◌<◌, ◌+◌, ◌|
 ghost use Rattle.std.specs.FinMap as map;
 ghost use Rattle.doc_server_network.specs.Networks.{Accepts, HasNobody, Recalls, Rests, StaysBut, WasAsked};
 ghost use Rattle.doc_server_network.specs.Saved.{IsReady, StaysSaved};
-ghost use Rattle.doc_server_serving.specs.Hearing.{WaitOn};
+ghost use Rattle.doc_server_turns.specs.Hearing.{WaitOn};
 ghost use Rattle.doc_server_serving.specs.Invariants.{AreFree, GoesOn};
-ghost use Rattle.doc_server_serving.specs.Parts.{NoMore};
+ghost use Rattle.doc_server_turns.specs.Parts.{NoMore};
 ghost use Rattle.doc_server_listen.specs.Sites.{IsSameSite};
 
-use crate::peers::Peers;
-use crate::telling::News;
 use doc_page::renderer::Renderer;
 use doc_page_parts::heap::Heap;
 use doc_server_journal::device::Device;
 use doc_server_network::accepted::Accepted;
 use doc_server_network::network::Network;
 use doc_server_network::saved_hub::SavedHub;
+use doc_server_turns::peers::Peers;
+use doc_server_turns::telling::News;
 
 /// How many peers are accepted in a turn at most.
 const ACCEPTS: usize = 64;

@@ -12,7 +12,7 @@ ghost use Rattle.doc_server_serving.specs.Hostings.{IsHosted};
 ghost use Rattle.doc_server_serving.specs.Hosts.{IsUnused};
 ghost use Rattle.doc_server_serving.specs.Invariants.{HasServedNobody, IsServed};
 ghost use Rattle.doc_server_serving.specs.Leading.{LeadsWith};
-ghost use Rattle.doc_server_serving.specs.Wirings.{AreWoken};
+ghost use Rattle.doc_server_turns.specs.Wirings.{AreWoken};
 ghost use Rattle.doc_store.specs.Store.{StoreState};
 
 pub mod ended;
@@ -88,11 +88,18 @@ fn new_server<C: Clock, F: Drop>(
     ensures empty { IfOk result (λ server. server.peers ≡ map.empty) }
     ensures most { IfOk result (λ server. server.door.most ≡ terms.now.connections) }
     ensures limits { IfOk result (λ server. server.limits ≡ terms.now.limits) }
+    ensures follows { IfOk result (λ server. server.follow_millis ≡ terms.now.follow_millis) }
 {
     let Ok(now) = Instant::now(rt) else {
         return Err(HostingFault::Serve(ServeFault::Socket));
     };
-    match Server::new(now, heap, terms.connections, terms.limits) {
+    match Server::new(
+        now,
+        heap,
+        terms.connections,
+        terms.limits,
+        terms.follow_millis,
+    ) {
         Ok(server) => Ok(server),
         Err(_) => Err(HostingFault::Serve(ServeFault::Memory)),
     }

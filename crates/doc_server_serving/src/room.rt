@@ -4,7 +4,7 @@ ghost use Rattle.std.specs.Prelude.{◌≡◌, IfErr, IfOk, OnErr, OnOk};
 ghost use Rattle.doc_hub.specs.Worlds.{World};
 ghost use Rattle.doc_server_network.specs.Crashes.{CrashesLeave, Restores};
 ghost use Rattle.doc_server_network.specs.Saved.{HasFailed, IsAllSaved, IsReady, IsSaved, IsSettled, TakesByRoom, has_grown};
-ghost use Rattle.doc_server_serving.specs.Leading.{LeadsQuietly};
+ghost use Rattle.doc_server_turns.specs.QuietRuns.{LeadsQuietly};
 ghost use Rattle.doc_server_serving.specs.Rooms.{growth_of};
 ghost use Rattle.doc_server_listen.specs.Sites.{IsSameSite};
 ghost use Rattle.doc_store.specs.Store.{StoreState};

@@ -5,37 +5,30 @@ ghost use Rattle.std.specs.FinMap as map;
 ghost use Rattle.std.specs.List.{list_any};
 ghost use Rattle.doc_hub.specs.Worlds.{World};
 ghost use Rattle.doc_server_network.specs.Crashes.{CrashesLeave, Restores, RestoresEither};
-ghost use Rattle.doc_server_network.specs.KeptTurns.{IsOfCalls};
 ghost use Rattle.doc_server_network.specs.Networks.{Recalls, WasAsked, WasWaitedFor, end_of_input, input_came};
 ghost use Rattle.doc_server_network.specs.Saved.{IsAllSaved, IsReady, IsSaved, IsSettled, IsUnedited, StaysSaved};
 ghost use Rattle.doc_server_serving.specs.Crashing.{AreKnown, RestoresFront, RestoresFrontBy};
 ghost use Rattle.doc_server_serving.specs.Doors.{is_open};
-ghost use Rattle.doc_server_serving.specs.Forces.{AreAllOfCalls, IsInForce, IsOutcome, IsSettledInForce, IsTaken, config_behind};
-ghost use Rattle.doc_server_serving.specs.Hearing.{HeardAt, IsMinded, WaitOn};
+ghost use Rattle.doc_server_serving.specs.Forces.{AreAllOfCalls, IsInForce, IsSettledInForce, IsTaken};
+ghost use Rattle.doc_server_turns.specs.Hearing.{HeardAt, IsMinded, WaitOn};
 ghost use Rattle.doc_server_serving.specs.Invariants.{AreFree, GoesOn, GoesOnWith, HasServedNobody, IsServed};
-ghost use Rattle.doc_server_serving.specs.Leading.{IsOfGiven, IsOfServer, LeadsQuietly, LeadsQuietlyBy, LeadsWith, StayAnswered};
-ghost use Rattle.doc_server_serving.specs.Parts.{AreMinded, NoMore, takes_part_at, times_among, turn_of};
+ghost use Rattle.doc_server_serving.specs.Leading.{LeadsWith, StayAnswered};
+ghost use Rattle.doc_server_turns.specs.QuietRuns.{LeadsQuietly};
+ghost use Rattle.doc_server_turns.specs.Parts.{AreMinded, NoMore, takes_part_at, times_among, turn_of};
 ghost use Rattle.doc_server_listen.specs.Sites.{IsSameSite};
-ghost use Rattle.doc_server_serving.specs.Scopes.{only_reads};
-ghost use Rattle.doc_server_serving.specs.Wirings.{AreWoken, IsFedAt, SweptAll};
+ghost use Rattle.doc_server_turns.specs.Scopes.{only_reads};
+ghost use Rattle.doc_server_turns.specs.Wirings.{AreWoken, IsFedAt, SweptAll};
 ghost use Rattle.doc_server_serving.specs.declared.fault.ServeFault.TheVariants as faults;
-ghost use Rattle.doc_server_serving.specs.declared.given.Given.TheVariants as givens;
 ghost use Rattle.doc_store.specs.Store.{StoreState};
 
 mod reloading;
 
 use crate::door::Door;
 use crate::fault::ServeFault;
-use crate::letting_go::let_go;
-use crate::limits::Limits;
 use crate::named_file::NamedFile;
 use crate::next_turn::NextTurn;
-use crate::peers::Peers;
 use crate::room::{growth, keep_room};
-use crate::scope::Scope;
 use crate::source::Source;
-use crate::telling::wake_told;
-use crate::turn::turn;
 use doc_page::renderer::Renderer;
 use doc_page_parts::heap::{Heap, Vec};
 use doc_server_journal::clock::seconds_of;
@@ -44,6 +37,12 @@ use doc_server_listen::share::Share;
 use doc_server_network::network::Network;
 use doc_server_network::saved_hub::SavedHub;
 use doc_server_settling::reserve::{RESERVE, SPARE};
+use doc_server_turns::letting_go::let_go;
+use doc_server_turns::limits::Limits;
+use doc_server_turns::peers::Peers;
+use doc_server_turns::scope::Scope;
+use doc_server_turns::telling::wake_told;
+use doc_server_turns::turn::turn;
 use std::alloc::AllocError;
 use std::rt::Clock;
 use std::time::{Duration, Instant};
@@ -53,9 +52,6 @@ const PIECE: usize = 16_384;
 
 /// How long the network is waited for at most, in milliseconds: a little longer than it is to the next sweep.
 const WAIT: u64 = 260;
-
-/// How long it is waited for at most where another server is followed, in milliseconds.
-const LOOK_WAIT: u64 = 20;
 
 /// How long it is at least from one sweep to the next, in milliseconds.
 const SWEEP: u64 = 250;
@@ -70,6 +66,8 @@ pub struct Server {
     peers: Peers,
     door: Door,
     limits: Limits,
+    /// How long the network is waited for at most where another server is followed, in milliseconds.
+    follow_millis: u64,
     /// The numbers of those that take part in the turn that runs.
     ready: Vec<u64>,
     /// The numbers of others, for a moment.
@@ -81,17 +79,20 @@ pub struct Server {
 }
 
 impl Server {
-    /// A server without clients, which begins at this time and has so many of them at most at once.
+    /// A server without clients, which begins at this time and has so many of them at most at once. Where it follows another server it waits
+    /// for the network so many milliseconds at most, and never longer than to its next sweep.
     pub fn new(
         now: Instant,
         heap: Heap,
         connections: usize,
         limits: Limits,
+        follow_millis: u64,
     ) -> Result<Server, AllocError>
         ensures empty { IfOk result (λ server. server.peers ≡ map.empty) }
         ensures door { IfOk result (λ server. server.door
             ≡ record { most = connections; is_awaited = false; rests = false }) }
         ensures limits { IfOk result (λ server. server.limits ≡ limits) }
+        ensures follows { IfOk result (λ server. server.follow_millis ≡ follow_millis) }
         ensures times { IfOk result (λ server. (server.swept ≡ now) × (server.looked ≡ now)) }
     {
         let mut server = Server {
@@ -99,6 +100,7 @@ impl Server {
             peers: Peers::new(heap),
             door: Door::new(connections),
             limits,
+            follow_millis,
             ready: Vec::new(heap),
             numbers: Vec::new(heap),
             piece: Vec::new(heap),
@@ -279,7 +281,7 @@ impl Server {
         }
         match scope {
             Scope::All => Duration::from_millis(WAIT),
-            Scope::Earlier => Duration::from_millis(LOOK_WAIT),
+            Scope::Earlier => Duration::from_millis(self.follow_millis.min(WAIT)),
             Scope::Reads => Duration::from_millis(0),
         }
     }

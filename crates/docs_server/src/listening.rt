@@ -278,6 +278,7 @@ fn listen_on<H: Host, R: Renderer + Drop, C: Clock, W: Watch + Drop, S: Source>(
             stranger_seconds: bounds.stranger_seconds,
             request_seconds: bounds.request_seconds,
         },
+        follow_millis: bounds.follow_millis,
     };
     host_site(rt, heap, host, hub, &terms, watch, source)
 }

@@ -1,6 +1,6 @@
 //! How a site is served.
 
-use crate::limits::Limits;
+use doc_server_turns::limits::Limits;
 
 /// How a site is served.
 #[derive(Clone, Copy, Drop)]
@@ -11,4 +11,6 @@ pub struct Terms<'a> {
     pub connections: usize,
     /// After how long connections end.
     pub limits: Limits,
+    /// How many milliseconds the network is waited for at most where another server is followed.
+    pub follow_millis: u64,
 }

@@ -1,26 +1,24 @@
 //! What the source gives between two turns. A reload's edits are made some at a time, with a turn of the peers between.
 
-ghost use Rattle.std.specs.Prelude.{◌≡◌, ◌≤◌, ◌<◌, ◌++◌, [], IfErr, IfOk, OnErr, OnOk, length, true};
+ghost use Rattle.std.specs.Prelude.{◌≡◌, ◌≤◌, ◌<◌, ◌++◌, [], IfOk, OnOk, length, true};
 ghost use Rattle.std.specs.FinMap as map;
-ghost use Rattle.doc_hub.specs.Worlds.{IsApart, World};
+ghost use Rattle.doc_hub.specs.Worlds.{World};
 ghost use Rattle.doc_server_network.specs.Crashes.{CrashesLeave, Restores};
 ghost use Rattle.doc_server_network.specs.KeptTurns.{IsOfCalls};
 ghost use Rattle.doc_server_network.specs.Networks.{Recalls, end_of_input};
 ghost use Rattle.doc_server_network.specs.Reloads.{IsUnderWay};
-ghost use Rattle.doc_server_network.specs.Saved.{IsAllSaved, IsReady, IsSaved, IsSettled, IsUnedited, StaysSaved};
-ghost use Rattle.doc_server_serving.specs.Forces.{AreAllOfCalls, IsOutcome, IsSettledInForce, IsTaken, IsUnset, config_behind, with_both};
+ghost use Rattle.doc_server_network.specs.Saved.{IsAllSaved, IsReady, IsSaved, IsSettled, IsUnedited};
+ghost use Rattle.doc_server_serving.specs.Forces.{AreAllOfCalls, IsOutcome, IsSettledInForce, IsTaken, config_behind};
 ghost use Rattle.doc_server_serving.specs.Invariants.{AreFree, GoesOn, GoesOnBy, GoesOnWith};
-ghost use Rattle.doc_server_serving.specs.Leading.{IsOfLead, IsOfReload, IsSetting, LeadsQuietlyBy, StayAnswered};
+ghost use Rattle.doc_server_serving.specs.Leading.{IsOfLead, IsOfReload, StayAnswered};
 ghost use Rattle.doc_store.specs.Store.{StoreState};
 
 use crate::fault::ServeFault;
 use crate::given::{Configuration, Given};
 use crate::named_file::NamedFile;
 use crate::next_turn::NextTurn;
-use crate::scope::Scope;
 use crate::server::Server;
 use crate::source::Source;
-use doc_media::media::Media;
 use doc_page::renderer::Renderer;
 use doc_server_journal::device::Device;
 use doc_server_network::laws::reloads_are_restored;
@@ -29,7 +27,8 @@ use doc_server_network::network::Network;
 use doc_server_network::reload_fault::{Refusal, ReloadFault};
 use doc_server_network::reloaded::Reloaded;
 use doc_server_network::saved_hub::SavedHub;
-use doc_store::readers::Readers;
+use doc_server_turns::scope::Scope;
+use doc_server_turns::setting::set_both;
 use doc_store::site_edit::SiteEdit;
 use std::rt::Clock;
 
@@ -235,34 +234,6 @@ impl Server {
         next.keep_input();
         Ok(ends)
     }
-}
-
-/// Sets media, and then readers. Where the media are refused nothing is set.
-fn set_both<D: Device, R: Renderer + Drop>(
-    saved: &mut SavedHub<D, R>,
-    readers: Readers,
-    media: Option<Media>,
-) -> Result<(), Refusal>
-    ensures quiet { LeadsQuietlyBy (IsSetting readers media) (R.page saved.old.hub.0)
-        saved.old.hub.1 saved.new.hub.1 }
-    ensures set { OnOk result
-        (saved.new.hub.1 ≡ with_both saved.old.hub.1 readers media) }
-    ensures apart { OnOk result (IsApart saved.old.hub.1.site saved.old.hub.1.media
-        → IsApart saved.old.hub.1.site media) }
-    ensures refused { IfErr result (IsUnset saved.old.hub.1 media) }
-    ensures world { OnErr result (saved.new.hub.1 ≡ saved.old.hub.1) }
-    ensures kept { OnErr result
-        (StaysSaved D.seen D.may_leave D.failed D.stale saved.old saved.new) }
-    ensures given { saved.new.hub.1.given ≡ saved.old.hub.1.given }
-    ensures same { R.page saved.new.hub.0 ≡ R.page saved.old.hub.0 }
-    ensures journal { saved.new.journal ≡ saved.old.journal }
-    ensures unsaved { saved.new.unsaved ≡ saved.old.unsaved }
-    ensures ready { IsReady D.seen D.may_leave D.failed D.stale saved.old
-        → IsReady D.seen D.may_leave D.failed D.stale saved.new }
-{
-    saved.set_media(media)?;
-    saved.set_readers(readers);
-    Ok(())
 }
 
 /// The edits that are made next, all or so many that nobody waits long, and those that are left then.

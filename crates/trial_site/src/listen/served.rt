@@ -65,6 +65,9 @@ impl<R: Renderer + Drop> Model for Served<R> {
         → IsReady memory_seen memory_leaves has_failed memory_stale s.saved × IsAllSaved s.saved };
 }
 
+/// How many milliseconds who follows waits at most before it looks.
+pub const FOLLOW_MILLIS: u64 = 20;
+
 /// Connections end after so many seconds of silence alone.
 pub fn idle(idle_seconds: u64) -> Limits {
     Limits {
@@ -87,7 +90,8 @@ impl<R: Renderer + Drop> Served<R> {
         let address = SocketAddr::from((Ipv4Addr::LOCALHOST, 0));
         let net = MioNetwork::bind(rt, heap, address, false).ok()?;
         let now = Instant::now(rt).ok()?;
-        let server = Server::new(now, heap, bounds.connections, idle(bounds.idle_seconds)).ok()?;
+        let limits = idle(bounds.idle_seconds);
+        let server = Server::new(now, heap, bounds.connections, limits, FOLLOW_MILLIS).ok()?;
         Some(Served {
             server,
             net,

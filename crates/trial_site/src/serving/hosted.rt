@@ -16,7 +16,7 @@ ghost use Rattle.doc_server_serving.specs.Saved.{IsAllSaved, IsReady};
 ghost use Rattle.doc_server_serving.specs.Wirings.{IsNew};
 
 use crate::listen::scene::bounds_of;
-use crate::listen::served::{Bounds, idle, saved_over};
+use crate::listen::served::{Bounds, FOLLOW_MILLIS, idle, saved_over};
 use crate::listen::told::push_told;
 use crate::serving::guests::{input_of, network_of};
 use crate::serving::held::replace;
@@ -196,7 +196,8 @@ fn serve<N: Network, D: Device + NamedFile, R: Renderer + Drop, P: Clock, S: Sou
     let Ok(now) = Instant::now(rt) else {
         return Err(ServeFault::Socket);
     };
-    let mut server = Server::new(now, heap, asked.connections, idle(asked.idle_seconds))?;
+    let limits = idle(asked.idle_seconds);
+    let mut server = Server::new(now, heap, asked.connections, limits, FOLLOW_MILLIS)?;
     let ended = server.serve(rt, net, saved, source);
     drop(server);
     ended

@@ -6,7 +6,7 @@ use Rattle.doc_server_serving.specs.Hosts.{IsUnused}
 use Rattle.doc_server_serving.proofs.Hosted.{hosted, nobody}
 use Rattle.doc_server_network.specs.Networks.{end_of_input}
 use Rattle.doc_server_serving.specs.Forces.{IsSettledInForce}
-use Rattle.doc_server_serving.specs.Wirings.{AreWoken}
+use Rattle.doc_server_turns.specs.Wirings.{AreWoken}
 use Rattle.doc_server_serving.proofs.hosting.host_site.Goals as goal
 
 pub serve-requires-clause-new : goal.serve-requires-clause-new

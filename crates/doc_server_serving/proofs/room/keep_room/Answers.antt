@@ -1,5 +1,5 @@
 use Rattle.doc_server_serving.proofs.Accepting.{quiet_none, quiet_taking}
-use Rattle.doc_server_serving.proofs.Sites.{same_by, takes_same}
+use Rattle.doc_server_turns.proofs.Sites.{same_by, takes_same}
 use Rattle.doc_server_serving.proofs.room.keep_room.Goals as goal
 
 pub returns-in_err-grown-clause-quiet : goal.returns-in_err-grown-clause-quiet

@@ -1,9 +1,9 @@
 use Rattle.std.proofs.Common.{refl}
 use Rattle.doc_server_serving.proofs.Accepting.{quiet_none}
 use Rattle.doc_server_serving.proofs.Crashing.{leaves_itself}
-use Rattle.doc_server_serving.proofs.Sites.{same_site}
+use Rattle.doc_server_turns.proofs.Sites.{same_site}
 use Rattle.doc_server_network.proofs.Leading.{same_is_unedited}
-use Rattle.doc_server_serving.proofs.Unedited.{no_yes}
+use Rattle.doc_server_turns.proofs.Unedited.{no_yes}
 use Rattle.doc_server_serving.proofs.server.look.Goals as goal
 
 pub keep_room-requires-clause-ready : goal.keep_room-requires-clause-ready

@@ -2,8 +2,8 @@ use Rattle.std.proofs.Common.{Some, None, ap, sym, ◌∙◌, subst}
 use Rattle.std.specs.Prelude.{option_copied}
 use Rattle.std.specs.Str.{IsUtf8}
 use Rattle.doc_store_readers.specs.Sites.{page_at}
-use Rattle.doc_hub_answers.specs.AnswerSteps.{after_edit}
-use Rattle.doc_hub_answers.specs.declared.edit.Edit.TheVariants as edits
+use Rattle.doc_hub_people.specs.AnswerSteps.{after_edit}
+use Rattle.doc_hub_people.specs.Edit.TheVariants as edits
 use Rattle.doc_hub_editing.specs.EditAnswers.{put_done}
 use Rattle.doc_hub_editing.specs.EditSteps.{left_at, request_at, told_at, view_at}
 use Rattle.doc_hub_editing.proofs.DeskSteps.{no_text, tells, text_by, was_found}

@@ -1,7 +1,7 @@
 use Rattle.std.proofs.Common.{Some, ap, sym, subst}
 use Rattle.doc_media.specs.Media.{beside_of}
-use Rattle.doc_hub_answers.specs.Edits.{CanBeMade}
-use Rattle.doc_hub_answers.specs.declared.answer.Answer.{Answer}
+use Rattle.doc_hub_people.specs.Edits.{CanBeMade}
+use Rattle.doc_hub_people.specs.Answer.{Answer}
 use Rattle.doc_hub_people.specs.PeopleAnswers.{offers_for}
 use Rattle.doc_hub_editing_refusals.specs.AskedSteps.{edit_request_shown}
 use Rattle.doc_hub_editing.proofs.EditsCan.{by_owner_can}

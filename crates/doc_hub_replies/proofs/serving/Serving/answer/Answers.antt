@@ -1,5 +1,5 @@
 use Rattle.std.proofs.Common.{sym, ◌∙◌}
-use Rattle.doc_hub_answers.specs.Edits.{puts_taken}
+use Rattle.doc_hub_media.specs.Edits.{puts_taken}
 use Rattle.doc_hub_replies.proofs.TakingLaws.{given_by, refused_counted, refused_so}
 use Rattle.doc_hub_replies.proofs.serving.Serving.answer.Goals as goal
 

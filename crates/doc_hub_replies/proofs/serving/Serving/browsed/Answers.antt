@@ -3,8 +3,8 @@ use Rattle.std.proofs.lemmas.Bool.{and_parts}
 use Rattle.doc_http_targets.specs.PeopleTargets.{is_style_sheet}
 use Rattle.doc_media.specs.Media.{beside_of}
 use Rattle.doc_store_readers.specs.Sites.{view_of}
-use Rattle.doc_hub_answers.specs.Edits.{puts_taken}
-use Rattle.doc_hub_answers.specs.Replies.{method_of, reads}
+use Rattle.doc_hub_media.specs.Edits.{puts_taken}
+use Rattle.doc_hub_media.specs.Replies.{method_of, reads}
 use Rattle.doc_hub_asking.specs.Asking.{Asking, reader_asking, row_of}
 use Rattle.doc_hub_asking.specs.AskingSteps.{asking_shown}
 use Rattle.doc_hub_editing_refusals.specs.AskedSteps.{edit_request_shown}

@@ -1,5 +1,5 @@
 use Rattle.std.proofs.Common.{sym}
-use Rattle.doc_hub_answers.specs.Edits.{puts_taken}
+use Rattle.doc_hub_media.specs.Edits.{puts_taken}
 use Rattle.doc_hub_replies.proofs.ServingSteps.{answered_with, answered_without}
 use Rattle.doc_hub_replies.proofs.serving.Serving.by_pages.Goals as goal
 

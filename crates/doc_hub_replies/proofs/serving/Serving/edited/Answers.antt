@@ -2,8 +2,8 @@ use Rattle.std.proofs.Common.{Bool, Some, ap, subst}
 use Rattle.doc_http.specs.declared.request.Request.{Request}
 use Rattle.doc_media.specs.Media.{beside_of}
 use Rattle.doc_store_readers.specs.Sites.{view_of}
-use Rattle.doc_hub_answers.specs.AnswerSteps.{AnsweredSo}
-use Rattle.doc_hub_answers.specs.Edits.{puts_taken}
+use Rattle.doc_hub_media.specs.AnswerSteps.{AnsweredSo}
+use Rattle.doc_hub_media.specs.Edits.{puts_taken}
 use Rattle.doc_hub_asking.specs.Asking.{is_guest}
 use Rattle.doc_hub_asking.specs.AskingSteps.{asking_shown}
 use Rattle.doc_hub_editing_refusals.specs.AskedSteps.{edit_request_shown}

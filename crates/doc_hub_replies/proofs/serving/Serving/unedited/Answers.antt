@@ -1,7 +1,7 @@
 use Rattle.std.proofs.Common.{false, ap, refl, sym, ◌∙◌}
 use Rattle.doc_media.specs.Media.{beside_of}
 use Rattle.doc_store_readers.specs.Sites.{view_of}
-use Rattle.doc_hub_answers.specs.Edits.{puts_taken}
+use Rattle.doc_hub_media.specs.Edits.{puts_taken}
 use Rattle.doc_hub_asking.specs.Asking.{row_of}
 use Rattle.doc_hub_asking.specs.AskingSteps.{asking_shown}
 use Rattle.doc_hub_media.specs.PeopleAnswers.{people_reply}

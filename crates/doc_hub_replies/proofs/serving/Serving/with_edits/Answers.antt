@@ -1,5 +1,5 @@
 use Rattle.std.proofs.Common.{sym, ◌∙◌}
-use Rattle.doc_hub_answers.specs.Edits.{puts_taken}
+use Rattle.doc_hub_media.specs.Edits.{puts_taken}
 use Rattle.doc_hub_replies.proofs.BesideSteps.{media_counted, media_so, pages_counted, pages_so}
 use Rattle.doc_hub_replies.proofs.serving.Serving.with_edits.Goals as goal
 

@@ -4,9 +4,9 @@ use Rattle.doc_server_network.specs.Networks.{WasAsked}
 use Rattle.doc_server_serving.proofs.Accepting.{goes_silently, quiet_none}
 use Rattle.doc_server_serving.proofs.Asking.{asked_above, asked_open, awaits_join, none_less, shut}
 use Rattle.doc_server_serving.proofs.Going.{goes_join}
-use Rattle.doc_server_serving.proofs.Minding.{waits_join, waits_nobody}
-use Rattle.doc_server_serving.proofs.Parting.{more_join, more_nobody}
-use Rattle.doc_server_serving.proofs.Sites.{same_join, same_site}
+use Rattle.doc_server_turns.proofs.Minding.{waits_join, waits_nobody}
+use Rattle.doc_server_turns.proofs.Parting.{more_join, more_nobody}
+use Rattle.doc_server_turns.proofs.Sites.{same_join, same_site}
 use Rattle.doc_server_serving.proofs.door.Door.accept.Goals as goal
 
 pub accepts-init : goal.accepts-init

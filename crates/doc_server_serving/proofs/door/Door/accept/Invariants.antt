@@ -3,9 +3,9 @@ use Rattle.std.specs.Prelude.{◌⊎◌, true}
 use Rattle.std.specs.FinMap as map
 use Rattle.doc_server_network.specs.Networks.{HasNobody, Recalls, WasAsked}
 use Rattle.doc_server_network.specs.Saved.{IsReady, StaysSaved}
-use Rattle.doc_server_serving.specs.Hearing.{WaitOn}
+use Rattle.doc_server_turns.specs.Hearing.{WaitOn}
 use Rattle.doc_server_serving.specs.Invariants.{GoesOn}
-use Rattle.doc_server_serving.specs.Parts.{NoMore}
+use Rattle.doc_server_turns.specs.Parts.{NoMore}
 use Rattle.doc_server_listen.specs.Sites.{IsSameSite}
 use Rattle.doc_server_serving.proofs.door.Door.accept.Given as goal
 

@@ -1,14 +1,14 @@
 use Rattle.std.proofs.Common.{subst, sym}
-use Rattle.doc_server_serving.specs.Hearing.{WaitOn}
+use Rattle.doc_server_turns.specs.Hearing.{WaitOn}
 use Rattle.doc_server_serving.specs.Invariants.{GoesOn}
-use Rattle.doc_server_serving.specs.Parts.{NoMore}
-use Rattle.doc_server_serving.specs.Wirings.{Table, new_peer}
+use Rattle.doc_server_turns.specs.Parts.{NoMore}
+use Rattle.doc_server_turns.specs.Wirings.{Table, new_peer}
 use Rattle.doc_server_serving.proofs.Accepting.{free_number, goes_in, goes_not_in, goes_silently, quiet_connect, quiet_drop}
 use Rattle.doc_server_serving.proofs.Bounds.{as_many, none_more, one_more}
 use Rattle.doc_server_serving.proofs.Going.{goes_join}
-use Rattle.doc_server_serving.proofs.Minding.{waits_in, waits_join, waits_nobody, waits_out}
-use Rattle.doc_server_serving.proofs.Parting.{more_in, more_join, more_nobody, more_out}
-use Rattle.doc_server_serving.proofs.Sites.{connects_same, disconnects_same, same_join}
+use Rattle.doc_server_turns.proofs.Minding.{waits_in, waits_join, waits_nobody, waits_out}
+use Rattle.doc_server_turns.proofs.Parting.{more_in, more_join, more_nobody, more_out}
+use Rattle.doc_server_turns.proofs.Sites.{connects_same, disconnects_same, same_join}
 use Rattle.doc_server_serving.proofs.door.Door.accept_one.Goals as goal
 
 pub asks-requires : goal.asks-requires

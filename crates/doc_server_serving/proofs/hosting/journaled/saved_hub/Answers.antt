@@ -1,7 +1,7 @@
 use Rattle.std.proofs.Common.{ap, refl, subst, sym}
 use Rattle.std.specs.Prelude.{is_some, option_copied}
 use Rattle.doc_hub.specs.Worlds.{store_of}
-use Rattle.doc_server_serving.specs.Leading.{LeadsQuietly}
+use Rattle.doc_server_turns.specs.QuietRuns.{LeadsQuietly}
 use Rattle.doc_server_serving.specs.Hostings.{IsMadeReady}
 use Rattle.doc_server_serving.proofs.Joining.{quietly_nowhere}
 use Rattle.doc_server_serving.proofs.hosting.journaled.saved_hub.Goals as goal

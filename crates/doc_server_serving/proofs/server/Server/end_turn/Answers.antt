@@ -3,9 +3,9 @@ use Rattle.std.specs.FinMap as map
 use Rattle.doc_server_serving.proofs.Asking.{asked_below, none_less}
 use Rattle.doc_server_serving.proofs.Fewer.{fewer_swept}
 use Rattle.doc_server_serving.proofs.Going.{goes_join, goes_swept}
-use Rattle.doc_server_serving.proofs.Minding.{waits_join, waits_swept}
-use Rattle.doc_server_serving.proofs.Parting.{minded_more}
-use Rattle.doc_server_serving.proofs.Sites.{same_join}
+use Rattle.doc_server_turns.proofs.Minding.{waits_join, waits_swept}
+use Rattle.doc_server_turns.proofs.Parting.{minded_more}
+use Rattle.doc_server_turns.proofs.Sites.{same_join}
 use Rattle.doc_server_serving.proofs.server.Server.end_turn.Goals as goal
 
 pub returns-in_err-is_swept-clause-goes : goal.returns-in_err-is_swept-clause-goes

@@ -6,7 +6,8 @@ use Rattle.doc_hub.specs.Worlds.{World}
 use Rattle.doc_server_network.proofs.Leading.{all_stays, is_of_all, led_further, ready_stays, unedited_stays}
 use Rattle.doc_server_network.specs.Reloads.{IsUnderWay}
 use Rattle.doc_store.specs.declared.site_edit.SiteEdit.{SiteEdit}
-use Rattle.doc_server_serving.specs.Leading.{IsOfLead, IsOfPeers}
+use Rattle.doc_server_serving.specs.Leading.{IsOfLead}
+use Rattle.doc_server_turns.specs.QuietRuns.{IsOfPeers}
 use Rattle.doc_server_serving.proofs.Accepting.{quiet_nowhere}
 use Rattle.doc_server_serving.proofs.Going.{goes_on, goes_unheard, goes_wider}
 use Rattle.doc_server_serving.proofs.Reloading.{peers_lead, quiet_part}

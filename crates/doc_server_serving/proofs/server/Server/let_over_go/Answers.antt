@@ -2,9 +2,9 @@ use Rattle.std.proofs.Common.{refl}
 use Rattle.doc_server_serving.proofs.Accepting.{goes_silently, quiet_none}
 use Rattle.doc_server_serving.proofs.Fewer.{fewer_turned}
 use Rattle.doc_server_serving.proofs.Going.{goes_turns}
-use Rattle.doc_server_serving.proofs.Minding.{waits_nobody}
-use Rattle.doc_server_serving.proofs.Parting.{more_nobody}
-use Rattle.doc_server_serving.proofs.Sites.{same_site}
+use Rattle.doc_server_turns.proofs.Minding.{waits_nobody}
+use Rattle.doc_server_turns.proofs.Parting.{more_nobody}
+use Rattle.doc_server_turns.proofs.Sites.{same_site}
 use Rattle.doc_server_serving.proofs.server.Server.let_over_go.Goals as goal
 
 pub returns-then-not-looks-clause-goes : goal.returns-then-not-looks-clause-goes

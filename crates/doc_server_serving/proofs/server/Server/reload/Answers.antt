@@ -6,7 +6,8 @@ use Rattle.doc_server_network.proofs.Leading.{all_stays, apart_of_saved, is_rest
 use Rattle.doc_server_network.specs.Crashes.{Restores}
 use Rattle.doc_server_network.specs.Reloads.{IsRestarted, beside}
 use Rattle.doc_server_serving.specs.Invariants.{GoesOnBy}
-use Rattle.doc_server_serving.specs.Leading.{IsOfLead, IsOfReload, IsSetting}
+use Rattle.doc_server_serving.specs.Leading.{IsOfLead, IsOfReload}
+use Rattle.doc_server_turns.specs.Settings.{IsSetting}
 use Rattle.doc_server_serving.proofs.Accepting.{quiet_nowhere}
 use Rattle.doc_server_serving.proofs.Crashing.{leaves_same}
 use Rattle.doc_server_serving.proofs.Going.{goes_on, goes_unheard, goes_wider}

@@ -2,18 +2,18 @@ use Rattle.std.proofs.Common.{◌++◌, ◌∙◌, ℕ, List, ap, refl, subst, s
 use Rattle.std.specs.Prelude.{Contains}
 use Rattle.std.specs.FinMap as map
 use Rattle.std.specs.List.{list_any}
-use Rattle.doc_server_serving.specs.Parts.{takes_part_at, times_among, turn_of}
+use Rattle.doc_server_turns.specs.Parts.{takes_part_at, times_among, turn_of}
 use Rattle.doc_server_serving.specs.declared.next_turn.NextTurn.{NextTurn}
 use Rattle.doc_server_serving.proofs.Accepting.{goes_silently, quiet_none}
 use Rattle.doc_server_serving.proofs.Crashing.{nothing_written, room_behind}
 use Rattle.doc_server_serving.proofs.Fewer.{fewer_turned}
 use Rattle.doc_server_serving.proofs.Going.{goes_join, goes_turns}
-use Rattle.doc_server_serving.proofs.Hearing.{all_heard, heard_longer}
+use Rattle.doc_server_turns.proofs.Hearing.{all_heard, heard_longer}
 use Rattle.doc_server_serving.proofs.Listed.{among_them, listed}
-use Rattle.doc_server_serving.proofs.Minding.{waits_nobody}
-use Rattle.doc_server_serving.proofs.Parting.{minded_served}
+use Rattle.doc_server_turns.proofs.Minding.{waits_nobody}
+use Rattle.doc_server_turns.proofs.Parting.{minded_served}
 use Rattle.doc_server_network.proofs.Leading.{same_is_unedited}
-use Rattle.doc_server_serving.proofs.Unedited.{no_yes}
+use Rattle.doc_server_turns.proofs.Unedited.{no_yes}
 use Rattle.doc_server_serving.proofs.server.Server.serve_ready.Goals as goal
 
 pub turn-requires-clause-all : goal.turn-requires-clause-all

@@ -2,8 +2,8 @@ use Rattle.std.proofs.Common.{◌++◌, ◌∙◌, ℕ, List, ap, subst, sym}
 use Rattle.std.specs.Prelude.{Contains}
 use Rattle.std.specs.FinMap as map
 use Rattle.doc_server_serving.specs.declared.next_turn.NextTurn.{NextTurn}
-use Rattle.doc_server_serving.proofs.Feeding.{all_fed}
-use Rattle.doc_server_serving.proofs.Parting.{minded_swept, or_later}
+use Rattle.doc_server_turns.proofs.Feeding.{all_fed}
+use Rattle.doc_server_turns.proofs.Parting.{minded_swept, or_later}
 use Rattle.doc_server_serving.proofs.server.Server.sweep.Goals as goal
 
 pub returns-clause-fed : goal.returns-clause-fed

@@ -1,13 +1,13 @@
 use Rattle.std.proofs.Common.{refl, ◌≤◌, ℕ, ap, arith, subst, sym, ◌∙◌}
 use Rattle.std.specs.FinMap as map
-use Rattle.doc_server_serving.specs.Hearing.{IsMinded}
+use Rattle.doc_server_turns.specs.Hearing.{IsMinded}
 use Rattle.doc_server_serving.specs.declared.next_turn.NextTurn.{NextTurn}
 use Rattle.doc_server_serving.proofs.Asking.{asked_below, none_less, waited_still}
 use Rattle.doc_server_serving.proofs.Crashing.{ended_behind, nothing_written, room_before, served_behind}
 use Rattle.doc_server_serving.proofs.Fewer.{fewer_given}
 use Rattle.doc_server_serving.proofs.Going.{goes_join}
-use Rattle.doc_server_serving.proofs.Minding.{minded, minded_on}
-use Rattle.doc_server_serving.proofs.Sites.{all_saved_too, settled_too}
+use Rattle.doc_server_turns.proofs.Minding.{minded, minded_on}
+use Rattle.doc_server_turns.proofs.Sites.{all_saved_too, settled_too}
 use Rattle.doc_server_serving.proofs.Turning.{goes_begun, goes_looked, goes_waited}
 use Rattle.doc_server_network.proofs.Leading.{same_is_unedited, unedited_behind}
 use Rattle.doc_server_serving.proofs.server.Server.turn.Goals as goal

@@ -1,7 +1,0 @@
-use Rattle.std.proofs.Common.{◌≡◌, ◌++◌}
-use Rattle.doc_server_serving.specs.Parts.{numbers_of, takes_part}
-use Rattle.doc_server_serving.proofs.peers.collect_of.Given as goal
-
-abbrev pub invariant-clients : goal.invariant-clients
-invariant-clients l =
-    l.ready.items ++ numbers_of takes_part l.id-iterator ≡ l.fn.ready.items ++ numbers_of takes_part l.fn.clients

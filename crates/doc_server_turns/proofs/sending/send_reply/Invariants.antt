@@ -1,0 +1,18 @@
+use Rattle.std.proofs.Common.{◌-◌, length, drop}
+use Rattle.doc_server_network.specs.Networks.{Recalls, Rests, RestsBut, Stays, StaysBut}
+use Rattle.doc_server_turns.specs.Wirings.{HandsOver}
+use Rattle.doc_server_turns.proofs.sending.send_reply.Given as goal
+
+abbrev pub invariant-writes : goal.invariant-writes
+invariant-writes g l = record {
+  gives : HandsOver (g.N.Network.gone l.fn.net l.id) (g.N.Network.gone l.net l.id) (drop l.fn.sent l.bytes) (drop l.sent l.bytes);
+  others : RestsBut l.id (g.N.Network.gone l.fn.net) (g.N.Network.gone l.net);
+  came : Rests (g.N.Network.came l.fn.net) (g.N.Network.came l.net);
+  wakes : StaysBut l.id (g.N.Network.wakes l.fn.net) (g.N.Network.wakes l.net);
+  ended : Stays (g.N.Network.has_ended l.fn.net) (g.N.Network.has_ended l.net);
+  free : Stays (g.N.Network.is_free l.fn.net) (g.N.Network.is_free l.net);
+  calls : Recalls (g.N.Network.made l.fn.net) (g.N.Network.made l.net);
+}
+
+abbrev pub decreases-writes : goal.decreases-writes
+decreases-writes g l = length l.bytes - l.sent

@@ -1,0 +1,16 @@
+pub mod Hearing
+pub mod Parts
+pub mod Replies
+pub mod Scopes
+pub mod Servings
+pub mod Sharing
+pub mod Silences
+pub mod Strangers
+pub mod Sweeps
+pub mod Tellings
+pub mod Times
+pub mod Turns
+pub mod Wirings
+pub mod Visits
+pub mod QuietRuns
+pub mod Settings
