@@ -17,7 +17,7 @@ SITES = {"good": 'text = "A"\n', "absent": 'file = "absent.md"\n', "long": 'file
          "bounds": 'text = "A"\n[listen]\nconnections = 0\n', "folder": 'text = "A"\n[[folder]]\npath = "nowhere"\n',
          "twice": 'text = "A"\n[[folder]]\npath = "pages"\n', "bad": 'text = "A"\n[[folder]]\npath = "bad"\n',
          "on_bad": 'text = "A"\n[[folder]]\npath = "bad"\nnames = "nfc"\nreadme = true\non_bad = true\n', "except": 'text = "A"\n[[folder]]\npath = "pages"\nexcept = ["b/"]\n',
-         "both": 'file = "absent.md"\n[listen]\nidle_seconds = -1\n',
+         "both": 'file = "absent.md"\n[listen]\nidle_seconds = -1\n', "follow": 'file = "absent.md"\n[listen]\nfollow_millis = 0\n',
          # a name behind the folders' keys, and in front of the pages for people and of the files
          "name": 'text = "A"\n[[reader]]\ntoken = "kot"\nname = "Ann"\n', "number": 'file = "absent.md"\n[[reader]]\ntoken = "kot"\nname = 5\n',
          "folder_name": 'text = "A"\n[[reader]]\ntoken = "kot"\nname = "Ann"\n[[folder]]\nprefix = ""\n',
@@ -43,6 +43,7 @@ ABOVE = {"no.toml": r"no\.toml:1:4: \S.*\n",
          **{f"{name}.toml": re.escape(f"{name}.toml{told}\n") for name, told in (
              ("bounds", ": [listen]: `connections` must be an integer from 1 to 65535"),
              ("both", ": [listen]: `idle_seconds` must be an integer from 1 to 86400"),
+             ("follow", ": [listen]: `follow_millis` must be an integer from 1 to 10000"),
              ("on_bad", ":7: folder 1: `on_bad` must be a string"), ("except", ":7: folder 1: `except` is bad"),
              ("name", f":7: reader 2: {BAD_NAME}"), ("number", ":7: reader 2: `name` must be a string"),
              ("folder_name", f":7: reader 2: {BAD_NAME}\nfolder_name.toml:10: folder 1: no `path`"),
@@ -107,7 +108,7 @@ class Later:
     def sites(self):
         """The configuration, the files that it names, its folders; then the journal."""
         for config, line in (("nowhere.toml", "cannot read nowhere.toml"), ("no.toml", "config"), ("absent.toml", "cannot read absent.md"),
-                             ("both.toml", "config: `idle_seconds` is bad"), ("folder.toml", "cannot read nowhere"),
+                             ("both.toml", "config: `idle_seconds` is bad"), ("follow.toml", "config: `follow_millis` is bad"), ("folder.toml", "cannot read nowhere"),
                              ("on_bad.toml", "config: folder 1: `on_bad` is bad"), ("name.toml", "config: reader 2: `name` is bad"),
                              ("number.toml", "config: reader 2: `name` is bad"), ("folder_name.toml", "config: folder 1: `path` is bad"),
                              ("name_title.toml", "config: reader 2: `name` is bad")):
@@ -120,6 +121,7 @@ class Later:
             self.both("no.toml", journal, "config")
             self.both("bounds.toml", journal, "config: `connections` is bad")
             self.both("both.toml", journal, "config: `idle_seconds` is bad")
+            self.both("follow.toml", journal, "config: `follow_millis` is bad")
             self.both("absent.toml", journal, "cannot read absent.md")
             self.both("folder.toml", journal, "cannot read nowhere")
             self.both("except.toml", journal, "config: folder 1: `except` is bad")
