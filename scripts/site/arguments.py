@@ -37,8 +37,13 @@ NO_ADDRESSES = ("", HOST, ":80", f"{HOST}:", f"{HOST}:65536", f"{HOST}:+1", "256
                 "Localhost:80", "localhost.:80", "localhost4:80", "local:80", "xlocalhost:80", "--log", "--journal")
 # what stands behind `--status`; FILE, which is any word, is None
 MONITORS = object()
+# what stands behind `--watch`
+PAUSE = object()
+PAUSES = ("1", "60", "3600", "0060")
+NO_PAUSES = ("", "0", "00", "3601", "4294967297", "+1", "-1", " 1", "1 ", "1.0", "1s", "one", "--log", "--watch")
+NEEDS_SECONDS = "--watch needs seconds: 1 to 3600"
 # the options of `listen`, each in all its forms
-LISTEN = ((["--journal", None],), (["--follow", None],), (["--log"], ["--log=json"]), (["--status", MONITORS],))
+LISTEN = ((["--journal", None],), (["--follow", None],), (["--log"], ["--log=json"]), (["--status", MONITORS],), (["--watch", PAUSE],))
 # two that exclude each other, which is told of a line that is good but for that
 EITHER = ("--journal", "--follow")
 # the words behind CONFIG and ADDR that `listen` takes, which are some of its options in any order, and those behind CONFIG that the others do
@@ -69,6 +74,8 @@ def stops(words, *lines):
 
 def fits(word, it):
     """Whether a word may stand for one of a good line."""
+    if it is PAUSE:
+        return word in PAUSES
     return word in ADDRESSES + LOCAL if it is MONITORS else it in (None, word)
 
 
@@ -84,6 +91,8 @@ def wrong(command, words):
             # the word stands where an address does
             if any(MONITORS in good[count - 1:count] and begins(words[:count - 1], good) for good in GOOD[command]):
                 return ADDR, "usage"
+            if any(PAUSE in good[count - 1:count] and begins(words[:count - 1], good) for good in GOOD[command]):
+                return NEEDS_SECONDS, "usage"
             # an option of the command, since some good line begins with it
             known = any(word in good[:1] for good in GOOD[command])
             # the log's two forms are one option
@@ -91,6 +100,8 @@ def wrong(command, words):
     for good in GOOD[command]:
         if len(words) == len(good) and begins(words, good):
             return (EXCLUDED, "usage") if all(word in good for word in EITHER) else ()
+    if words and words[-1] == "--watch":
+        return NEEDS_SECONDS, "usage"
     return (f"{words[-1]} needs {'an address' if words[-1] == '--status' else 'a file'}", "usage") if words else ("usage",)
 
 
@@ -124,6 +135,11 @@ def numbers_and_addresses():
             stops(["listen", NOWHERE, address, *options], ADDR, "usage")
         for options in ([], ["--log"], ["x"], ["--status"]):
             stops(["listen", NOWHERE, f"{HOST}:0", "--status", address, *options], ADDR, "usage")
+    for pause in PAUSES:
+        stops(["listen", NOWHERE, f"{HOST}:0", "--watch", pause], UNDERSTOOD)
+    for pause in NO_PAUSES:
+        for options in ([], ["--log"], ["x"], ["--watch"]):
+            stops(["listen", NOWHERE, f"{HOST}:0", "--watch", pause, *options], NEEDS_SECONDS, "usage")
 
 
 def options():
@@ -131,14 +147,16 @@ def options():
     words = ("--journal", "--log", "--log=json", "j", "--Log")
     others = ("--journal", "--log", "--status", LOCAL[0], "j")
     files = ("--journal", "--follow", "--log", "j", "--Follow")
-    lines = list(dict.fromkeys(line for five in (words, others, files) for count in range(5)
+    looks = ("--journal", "--watch", "--log", "60", "--Watch")
+    lines = list(dict.fromkeys(line for five in (words, others, files, looks) for count in range(5)
                                for line in itertools.product(five, repeat=count)))
-    lines += [(*front, "j", last, "x") for front in (("--log", "--journal"), ("--log", "--follow")) for last in (*words, *others, *files)]
-    # each order of three options and of all four, alone, and with one of them behind it a second time
-    lines += [tuple("j" if it is None else LOCAL[0] if it is MONITORS else it for it in good) + more
+    lines += [(*front, "j", last, "x") for front in (("--log", "--journal"), ("--log", "--follow")) for last in (*words, *others, *files, *looks)]
+    # each order of three options and of more, alone, and with one of them behind it a second time
+    lines += [tuple("j" if it is None else LOCAL[0] if it is MONITORS else "60" if it is PAUSE else it for it in good) + more
               for good in GOOD["listen"] if len(good) >= 5
-              for more in ((), ("--journal",), ("--follow", "k"), ("--log",), ("--log=json",), ("--status", "x"))]
+              for more in ((), ("--journal",), ("--follow", "k"), ("--log",), ("--log=json",), ("--status", "x"), ("--watch", "1"))]
     lines += [("--status=",), (f"--status={LOCAL[0]}",), ("--Status", LOCAL[0]), ("--status", LOCAL[0], LOCAL[0])]
+    lines += [("--watch=",), ("--watch=1",), ("--Watch", "1"), ("--watch", "1", "1")]
     lines += [("--log=",), ("--log=text",), ("--log=JSON",), ("--log", "json"), ("--journal=j",), ("--follow=j",), ("-log",), ("--",), ("-",)]
     for command, front in FRONTS.items():
         for line in map(list, lines):

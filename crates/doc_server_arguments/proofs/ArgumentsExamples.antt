@@ -12,7 +12,7 @@ use Rattle.doc_server_arguments.specs.declared.log_form.LogForm.TheVariants.{Pla
 use Rattle.doc_server_arguments.specs.Addresses.{address_of, listen_address_of, v4_of, v6_of}
 use Rattle.doc_server_arguments.specs.Commands.{Asked, command_in, Demo, Render, Examples, Check, Replay, Serve, Listen, Compact, Folders, Lint, Token, TokenHash, Version, Help}
 use Rattle.doc_server_arguments.specs.ShownWords.{shown_word}
-use Rattle.doc_server_arguments.specs.Usage.{NoCommand, NoAddress, UnknownOption, StandsTwice, NeedsFile, NeedsAddress, NeedsGroups, JournalAndFollow, usage_text}
+use Rattle.doc_server_arguments.specs.Usage.{NoCommand, NoAddress, UnknownOption, StandsTwice, NeedsFile, NeedsAddress, NeedsSeconds, NeedsGroups, JournalAndFollow, usage_text}
 use Rattle.doc_server_arguments.specs.Versions.{version_lines}
 
 -- ---- addresses
@@ -133,15 +133,15 @@ abbrev listen_with : List (List ℕ) → List (List ℕ)
 listen_with options = codes "listen" ∷ codes "site.toml" ∷ codes "localhost:80" ∷ options
 
 abbrev listening : Option (List ℕ) → Option LogForm → Asked
-listening journal log = Listen (codes "site.toml") (codes "localhost:80") (local 80) journal None log None
+listening journal log = Listen (codes "site.toml") (codes "localhost:80") (local 80) journal None log None None
 
 -- the same, with monitors at port 9 of 127.0.0.1
 abbrev watched : Option (List ℕ) → Option LogForm → Asked
-watched journal log = Listen (codes "site.toml") (codes "localhost:80") (local 80) journal None log (Some (local 9))
+watched journal log = Listen (codes "site.toml") (codes "localhost:80") (local 80) journal None log (Some (local 9)) None
 
 -- the same of a server that follows another's journal
 abbrev following : List ℕ → Option LogForm → Option SocketAddr → Asked
-following file log status = Listen (codes "site.toml") (codes "localhost:80") (local 80) None (Some file) log status
+following file log status = Listen (codes "site.toml") (codes "localhost:80") (local 80) None (Some file) log status None
 
 listen : command_in (listen_with []) ≡ Ok (listening None None)
 unfolding address_of read_socket_v4 read_ipv4 read_octet read_number read_port
@@ -377,6 +377,49 @@ address_before_options : command_in (codes "listen" ∷ codes "site.toml" ∷ co
 unfolding address_of read_socket_v4 read_socket_v6 read_ipv4 read_octet read_number
 address_before_options = refl
 
+-- with looks after so many seconds
+abbrev looking : ℕ → Asked
+looking seconds = Listen (codes "site.toml") (codes "localhost:80") (local 80) None None None None (Some seconds)
+
+listen_with_watch : command_in (listen_with (codes "--watch" ∷ codes "10" ∷ [])) ≡ Ok (looking 10)
+unfolding address_of read_socket_v4 read_ipv4 read_octet read_number read_port
+listen_with_watch = refl
+
+-- from one second to an hour
+watch_the_longest : command_in (listen_with (codes "--watch" ∷ codes "03600" ∷ [])) ≡ Ok (looking 3600)
+unfolding address_of read_socket_v4 read_ipv4 read_octet read_number read_port
+watch_the_longest = refl
+
+watch_too_long : command_in (listen_with (codes "--watch" ∷ codes "3601" ∷ codes "--log" ∷ codes "--log" ∷ [])) ≡ Err NeedsSeconds
+unfolding address_of read_socket_v4 read_ipv4 read_octet read_number read_port
+watch_too_long = refl
+
+watch_never : command_in (listen_with (codes "--watch" ∷ codes "0" ∷ [])) ≡ Err NeedsSeconds
+unfolding address_of read_socket_v4 read_ipv4 read_octet read_number read_port
+watch_never = refl
+
+watch_a_sign : command_in (listen_with (codes "--watch" ∷ codes "+1" ∷ [])) ≡ Err NeedsSeconds
+unfolding address_of read_socket_v4 read_ipv4 read_octet read_number read_port
+watch_a_sign = refl
+
+watch_without_seconds : command_in (listen_with (codes "--log" ∷ codes "--watch" ∷ [])) ≡ Err NeedsSeconds
+unfolding address_of read_socket_v4 read_ipv4 read_octet read_number read_port
+watch_without_seconds = refl
+
+-- what stands behind `--watch` is its seconds
+watch_an_option : command_in (listen_with (codes "--watch" ∷ codes "--log" ∷ [])) ≡ Err NeedsSeconds
+unfolding address_of read_socket_v4 read_ipv4 read_octet read_number read_port
+watch_an_option = refl
+
+watch_twice : command_in (listen_with (codes "--watch" ∷ codes "1" ∷ codes "--watch" ∷ []))
+    ≡ Err (StandsTwice (codes "--watch"))
+unfolding address_of read_socket_v4 read_ipv4 read_octet read_number read_port
+watch_twice = refl
+
+journal_named_watch : command_in (listen_with (codes "--journal" ∷ codes "--watch" ∷ [])) ≡ Ok (listening (Some (codes "--watch")) None)
+unfolding address_of read_socket_v4 read_ipv4 read_octet read_number read_port
+journal_named_watch = refl
+
 listen_without_address : command_in (codes "listen" ∷ codes "site.toml" ∷ []) ≡ Err NoCommand
 listen_without_address = refl
 
@@ -403,6 +446,10 @@ compact_with_status = refl
 compact_with_follow : command_in (codes "compact" ∷ codes "site.toml" ∷ codes "--follow" ∷ codes "j" ∷ [])
     ≡ Err (UnknownOption (codes "--follow"))
 compact_with_follow = refl
+
+compact_with_watch : command_in (codes "compact" ∷ codes "site.toml" ∷ codes "--watch" ∷ codes "1" ∷ [])
+    ≡ Err (UnknownOption (codes "--watch"))
+compact_with_watch = refl
 
 compact_and_more : command_in (codes "compact" ∷ codes "site.toml" ∷ codes "--journal" ∷ codes "j" ∷ codes "x" ∷ [])
     ≡ Err (UnknownOption (codes "x"))
@@ -484,6 +531,9 @@ no_file_told = refl
 no_address_told : usage_text (NeedsAddress (codes "--status")) ≡ codes "--status needs an address\ndocs_server: usage"
 unfolding percent_encode should_percent_encode
 no_address_told = refl
+
+no_seconds_told : usage_text NeedsSeconds ≡ codes "--watch needs seconds: 1 to 3600\ndocs_server: usage"
+no_seconds_told = refl
 
 both_told : usage_text JournalAndFollow ≡ codes "--journal and --follow exclude each other\ndocs_server: usage"
 both_told = refl

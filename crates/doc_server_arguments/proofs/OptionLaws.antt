@@ -12,9 +12,10 @@ use Rattle.doc_server_arguments.specs.declared.log_form.LogForm.{LogForm}
 use Rattle.doc_server_arguments.specs.declared.options.Known.{Known}
 use Rattle.doc_server_arguments.specs.declared.options.Known.TheVariants.{All, Journal}
 use Rattle.doc_server_arguments.specs.Addresses.{listen_address_of}
-use Rattle.doc_server_arguments.specs.Options.{Said, Stated, first_said, first_wrong, follow_in, follow_word, form_of, journal_in, journal_word, json_word, log_in, log_word, names_of, option_of, options_in, said_by, said_unless, stands, stated, status_in, status_word, wrong_address, wrong_behind, wrong_file, wrong_value}
-use Rattle.doc_server_arguments.specs.OptionSteps.{follow_taken, journal_taken, log_taken, onward, status_at, status_taken, taken_all, taken_one}
-use Rattle.doc_server_arguments.specs.Usage.{Wrong, NoAddress, UnknownOption, StandsTwice}
+use Rattle.doc_server_arguments.specs.Options.{Said, Stated, first_said, first_wrong, follow_in, follow_word, form_of, journal_in, journal_word, json_word, log_in, log_word, names_of, option_of, options_in, said_by, said_unless, stands, stated, status_in, status_word, watch_in, watch_word, wrong_address, wrong_behind, wrong_file, wrong_pause, wrong_value}
+use Rattle.doc_server_arguments.specs.OptionSteps.{follow_taken, journal_taken, log_taken, onward, status_at, status_taken, taken_all, taken_one, watch_each, watch_taken}
+use Rattle.doc_server_arguments.specs.Numbers.{pause_of}
+use Rattle.doc_server_arguments.specs.Usage.{Wrong, NoAddress, UnknownOption, StandsTwice, NeedsSeconds}
 
 -- ---- what is said first
 
@@ -80,6 +81,14 @@ address_there : (word : List ℕ) (value : Option (List ℕ)) → is_none (wrong
 address_there word None h = absurd (cc)
 address_there word (Some written) h = address_read (listen_address_of written) h
 
+pause_read : (o : Option ℕ) → is_none (if is_none o then Some NeedsSeconds else None) ≡ true → is_some o ≡ true
+pause_read None h = absurd (cc)
+pause_read (Some seconds) h = refl
+
+pause_there : (value : Option (List ℕ)) → is_none (wrong_pause value) ≡ true → is_some (option_and_then pause_of value) ≡ true
+pause_there None h = absurd (cc)
+pause_there (Some written) h = pause_read (pause_of written) h
+
 -- the value of an option of this word
 value_right : (word name : List ℕ) (value : Option (List ℕ)) → is_none (wrong_value (record { word = word; value = value })) ≡ true
     → bytes_eq word name ≡ true → is_none (wrong_value (record { word = name; value = value })) ≡ true
@@ -105,6 +114,12 @@ status_says word value h =
     (λ is. address_there status_word value (value_right word status_word value h is))
     ∙ of_one_word word status_word refl
 
+watch_says : Says watch_in watch_word
+watch_says word value h =
+    some_where (bytes_eq word watch_word) (option_and_then pause_of value)
+    (λ is. pause_there value (value_right word watch_word value h is))
+    ∙ of_one_word word watch_word refl
+
 -- ---- one option more
 
 -- what is said with what an option says
@@ -114,6 +129,7 @@ with said option = record {
   follow = option_or said.follow (follow_in option);
   log = option_or said.log (log_in option);
   status = option_or said.status (status_in option);
+  watch = option_or said.watch (watch_in option);
 }
 
 said_more : (before : List Stated) (option : Stated) → with (said_by before) option ≡ said_by (before ++ option ∷ [])
@@ -122,6 +138,7 @@ said_more before option i = record {
   follow = sym (first_more follow_in before option) i;
   log = sym (first_more log_in before option) i;
   status = sym (first_more status_in before option) i;
+  watch = sym (first_more watch_in before option) i;
 }
 
 -- what one option of a command says, where none of it stands before or one does
@@ -130,7 +147,8 @@ known_taken said option =
     if bytes_eq option.word journal_word then journal_taken said option.word said.journal option.value
     else (if bytes_eq option.word follow_word then follow_taken said option.word said.follow option.value
     else (if bytes_eq option.word status_word then status_taken said option.word said.status option.value
-    else log_taken said (form_of option.word) said.log))
+    else (if bytes_eq option.word watch_word then watch_taken said option.word said.watch option.value
+    else log_taken said (form_of option.word) said.log)))
 
 abbrev known_wrong : Bool → Stated → Option Wrong
 known_wrong before option = if before then Some (StandsTwice (option_of option.word)) else wrong_value option
@@ -141,95 +159,140 @@ TakesIt before value word =
     ≡ said_unless (known_wrong (stands (option_of word) before) (record { word = word; value = value }))
     (with (said_by before) (record { word = word; value = value }))
 
-journal_one : (journal follow : Option (List ℕ)) (log : Option LogForm) (status : Option SocketAddr) (value : Option (List ℕ))
-    → journal_taken (record { journal = journal; follow = follow; log = log; status = status }) journal_word journal value
+journal_one : (journal follow : Option (List ℕ)) (log : Option LogForm) (status : Option SocketAddr) (watch : Option ℕ)
+    (value : Option (List ℕ))
+    → journal_taken (record { journal = journal; follow = follow; log = log; status = status; watch = watch }) journal_word journal value
     ≡ said_unless (if is_some journal then Some (StandsTwice journal_word) else wrong_file journal_word value) (record {
       journal = option_or journal value;
       follow = option_or follow None;
       log = option_or log None;
       status = option_or status None;
+      watch = option_or watch None;
     })
-journal_one (Some before) follow log status value = refl
-journal_one None follow log status None = refl
-journal_one None follow log status (Some file) = rw (none_more follow, none_more log, none_more status) refl
+journal_one (Some before) follow log status watch value = refl
+journal_one None follow log status watch None = refl
+journal_one None follow log status watch (Some file) = rw (none_more follow, none_more log, none_more status, none_more watch) refl
 
-follow_one : (journal follow : Option (List ℕ)) (log : Option LogForm) (status : Option SocketAddr) (value : Option (List ℕ))
-    → follow_taken (record { journal = journal; follow = follow; log = log; status = status }) follow_word follow value
+follow_one : (journal follow : Option (List ℕ)) (log : Option LogForm) (status : Option SocketAddr) (watch : Option ℕ)
+    (value : Option (List ℕ))
+    → follow_taken (record { journal = journal; follow = follow; log = log; status = status; watch = watch }) follow_word follow value
     ≡ said_unless (if is_some follow then Some (StandsTwice follow_word) else wrong_file follow_word value) (record {
       journal = option_or journal None;
       follow = option_or follow value;
       log = option_or log None;
       status = option_or status None;
+      watch = option_or watch None;
     })
-follow_one journal (Some before) log status value = refl
-follow_one journal None log status None = refl
-follow_one journal None log status (Some file) = rw (none_more journal, none_more log, none_more status) refl
+follow_one journal (Some before) log status watch value = refl
+follow_one journal None log status watch None = refl
+follow_one journal None log status watch (Some file) = rw (none_more journal, none_more log, none_more status, none_more watch) refl
 
-log_one : (form : LogForm) (journal follow : Option (List ℕ)) (log : Option LogForm) (status : Option SocketAddr)
-    → log_taken (record { journal = journal; follow = follow; log = log; status = status }) form log
+log_one : (form : LogForm) (journal follow : Option (List ℕ)) (log : Option LogForm) (status : Option SocketAddr) (watch : Option ℕ)
+    → log_taken (record { journal = journal; follow = follow; log = log; status = status; watch = watch }) form log
     ≡ said_unless (if is_some log then Some (StandsTwice log_word) else None) (record {
       journal = option_or journal None;
       follow = option_or follow None;
       log = option_or log (Some form);
       status = option_or status None;
+      watch = option_or watch None;
     })
-log_one form journal follow (Some before) status = refl
-log_one form journal follow None status = rw (none_more journal, none_more follow, none_more status) refl
+log_one form journal follow (Some before) status watch = refl
+log_one form journal follow None status watch =
+    rw (none_more journal, none_more follow, none_more status, none_more watch) refl
 
-status_read : (journal follow : Option (List ℕ)) (log : Option LogForm) (read : Option SocketAddr)
-    → status_at (record { journal = journal; follow = follow; log = log; status = None }) read
+status_read : (journal follow : Option (List ℕ)) (log : Option LogForm) (watch : Option ℕ) (read : Option SocketAddr)
+    → status_at (record { journal = journal; follow = follow; log = log; status = None; watch = watch }) read
     ≡ said_unless (if is_none read then Some NoAddress else None) (record {
       journal = option_or journal None;
       follow = option_or follow None;
       log = option_or log None;
       status = read;
+      watch = option_or watch None;
     })
-status_read journal follow log None = refl
-status_read journal follow log (Some address) = rw (none_more journal, none_more follow, none_more log) refl
+status_read journal follow log watch None = refl
+status_read journal follow log watch (Some address) = rw (none_more journal, none_more follow, none_more log, none_more watch) refl
 
-status_one : (journal follow : Option (List ℕ)) (log : Option LogForm) (status : Option SocketAddr) (value : Option (List ℕ))
-    → status_taken (record { journal = journal; follow = follow; log = log; status = status }) status_word status value
+status_one : (journal follow : Option (List ℕ)) (log : Option LogForm) (status : Option SocketAddr) (watch : Option ℕ)
+    (value : Option (List ℕ))
+    → status_taken (record { journal = journal; follow = follow; log = log; status = status; watch = watch }) status_word status value
     ≡ said_unless (if is_some status then Some (StandsTwice status_word) else wrong_address status_word value) (record {
       journal = option_or journal None;
       follow = option_or follow None;
       log = option_or log None;
       status = option_or status (option_and_then listen_address_of value);
+      watch = option_or watch None;
     })
-status_one journal follow log (Some before) value = refl
-status_one journal follow log None None = refl
-status_one journal follow log None (Some written) = status_read journal follow log (listen_address_of written)
+status_one journal follow log (Some before) watch value = refl
+status_one journal follow log None watch None = refl
+status_one journal follow log None watch (Some written) = status_read journal follow log watch (listen_address_of written)
+
+watch_read : (journal follow : Option (List ℕ)) (log : Option LogForm) (status : Option SocketAddr) (read : Option ℕ)
+    → watch_each (record { journal = journal; follow = follow; log = log; status = status; watch = None }) read
+    ≡ said_unless (if is_none read then Some NeedsSeconds else None) (record {
+      journal = option_or journal None;
+      follow = option_or follow None;
+      log = option_or log None;
+      status = option_or status None;
+      watch = read;
+    })
+watch_read journal follow log status None = refl
+watch_read journal follow log status (Some seconds) = rw (none_more journal, none_more follow, none_more log, none_more status) refl
+
+watch_one : (journal follow : Option (List ℕ)) (log : Option LogForm) (status : Option SocketAddr) (watch : Option ℕ)
+    (value : Option (List ℕ))
+    → watch_taken (record { journal = journal; follow = follow; log = log; status = status; watch = watch }) watch_word watch value
+    ≡ said_unless (if is_some watch then Some (StandsTwice watch_word) else wrong_pause value) (record {
+      journal = option_or journal None;
+      follow = option_or follow None;
+      log = option_or log None;
+      status = option_or status None;
+      watch = option_or watch (option_and_then pause_of value);
+    })
+watch_one journal follow log status (Some before) value = refl
+watch_one journal follow log status None None = refl
+watch_one journal follow log status None (Some written) = watch_read journal follow log status (pause_of written)
 
 takes_journal : (before : List Stated) (value : Option (List ℕ)) → whole before ≡ true → TakesIt before value journal_word
 takes_journal before value h =
-    journal_one (first_said journal_in before) (first_said follow_in before) (first_said log_in before) (first_said status_in before) value
+    journal_one (first_said journal_in before) (first_said follow_in before) (first_said log_in before) (first_said status_in before)
+    (first_said watch_in before) value
     ∙ ap (λ b. said_unless (known_wrong b (record { word = journal_word; value = value }))
     (with (said_by before) (record { word = journal_word; value = value }))) (first_given journal_in journal_word journal_says before h)
 
 takes_follow : (before : List Stated) (value : Option (List ℕ)) → whole before ≡ true → TakesIt before value follow_word
 takes_follow before value h =
-    follow_one (first_said journal_in before) (first_said follow_in before) (first_said log_in before) (first_said status_in before) value
+    follow_one (first_said journal_in before) (first_said follow_in before) (first_said log_in before) (first_said status_in before)
+    (first_said watch_in before) value
     ∙ ap (λ b. said_unless (known_wrong b (record { word = follow_word; value = value }))
     (with (said_by before) (record { word = follow_word; value = value }))) (first_given follow_in follow_word follow_says before h)
 
 takes_log : (before : List Stated) (value : Option (List ℕ)) → whole before ≡ true → TakesIt before value log_word
 takes_log before value h =
     log_one (form_of log_word) (first_said journal_in before) (first_said follow_in before) (first_said log_in before)
-    (first_said status_in before)
+    (first_said status_in before) (first_said watch_in before)
     ∙ ap (λ b. said_unless (known_wrong b (record { word = log_word; value = value }))
     (with (said_by before) (record { word = log_word; value = value }))) (first_given log_in log_word log_says before h)
 
 takes_json : (before : List Stated) (value : Option (List ℕ)) → whole before ≡ true → TakesIt before value json_word
 takes_json before value h =
     log_one (form_of json_word) (first_said journal_in before) (first_said follow_in before) (first_said log_in before)
-    (first_said status_in before)
+    (first_said status_in before) (first_said watch_in before)
     ∙ ap (λ b. said_unless (known_wrong b (record { word = json_word; value = value }))
     (with (said_by before) (record { word = json_word; value = value }))) (first_given log_in log_word log_says before h)
 
 takes_status : (before : List Stated) (value : Option (List ℕ)) → whole before ≡ true → TakesIt before value status_word
 takes_status before value h =
-    status_one (first_said journal_in before) (first_said follow_in before) (first_said log_in before) (first_said status_in before) value
+    status_one (first_said journal_in before) (first_said follow_in before) (first_said log_in before) (first_said status_in before)
+    (first_said watch_in before) value
     ∙ ap (λ b. said_unless (known_wrong b (record { word = status_word; value = value }))
     (with (said_by before) (record { word = status_word; value = value }))) (first_given status_in status_word status_says before h)
+
+takes_watch : (before : List Stated) (value : Option (List ℕ)) → whole before ≡ true → TakesIt before value watch_word
+takes_watch before value h =
+    watch_one (first_said journal_in before) (first_said follow_in before) (first_said log_in before) (first_said status_in before)
+    (first_said watch_in before) value
+    ∙ ap (λ b. said_unless (known_wrong b (record { word = watch_word; value = value }))
+    (with (said_by before) (record { word = watch_word; value = value }))) (first_given watch_in watch_word watch_says before h)
 
 -- what holds of each of some words
 abbrev Each : (List ℕ → Type 0) → List (List ℕ) → Type 0
@@ -247,8 +310,9 @@ one_of Holds word (name ∷ names) each is = by (bytes_eq word name) refl is (λ
     by false e some rest = rest some
 
 takes_others : (before : List Stated) (value : Option (List ℕ)) → whole before ≡ true
-    → Each (TakesIt before value) (log_word ∷ json_word ∷ status_word ∷ [])
-takes_others before value h = (takes_log before value h, (takes_json before value h, (takes_status before value h, tt)))
+    → Each (TakesIt before value) (log_word ∷ json_word ∷ status_word ∷ watch_word ∷ [])
+takes_others before value h =
+    (takes_log before value h, (takes_json before value h, (takes_status before value h, (takes_watch before value h, tt))))
 
 takes_each : (known : Known) (before : List Stated) (value : Option (List ℕ)) → whole before ≡ true
     → Each (TakesIt before value) (names_of known)
@@ -305,5 +369,5 @@ taken_is known before (option ∷ rest) h =
 
 -- all of them, from none on
 pub all_taken : (known : Known) (words : List (List ℕ))
-    → taken_all known (record { journal = None; follow = None; log = None; status = None }) (stated words) ≡ options_in known words
+    → taken_all known (record { journal = None; follow = None; log = None; status = None; watch = None }) (stated words) ≡ options_in known words
 all_taken known words = taken_is known [] (stated words) refl

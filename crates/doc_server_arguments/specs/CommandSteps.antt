@@ -15,7 +15,7 @@ command_shown (commands.Replay replay) = Replay replay.config.now
 command_shown (commands.Serve serve) = Serve serve.config.now serve.written.now serve.address serve.count serve.turns
 command_shown (commands.Listen listen) =
     Listen listen.config.now listen.written.now listen.address (option_copied listen.journal) (option_copied listen.follow) listen.log
-    listen.status
+    listen.status listen.watch
 command_shown (commands.Compact compact) = Compact compact.config.now compact.journal.now
 command_shown (commands.Folders config) = Folders config.now
 command_shown (commands.Lint lint) = Lint lint.config.now (option_copied lint.journal)

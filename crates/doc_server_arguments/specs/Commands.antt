@@ -18,7 +18,7 @@ pub data Asked : Type 0 where
   Replay : (config : List ℕ) → Asked
   Serve : (config written : List ℕ) (address : SocketAddr) (count turns : ℕ) → Asked
   Listen : (config written : List ℕ) (address : SocketAddr) (journal follow : Option (List ℕ)) (log : Option LogForm)
-      (status : Option SocketAddr) → Asked
+      (status : Option SocketAddr) (watch : Option ℕ) → Asked
   Compact : (config journal : List ℕ) → Asked
   Folders : (config : List ℕ) → Asked
   Lint : (config : List ℕ) (journal : Option (List ℕ)) → Asked
@@ -62,7 +62,7 @@ serve_in words = Err NoCommand
 abbrev pub listen_saying : List ℕ → List ℕ → SocketAddr → Result Said Wrong → Result Asked Wrong
 listen_saying config written address (Ok said) =
     if is_some said.journal && is_some said.follow then Err JournalAndFollow
-    else Ok (Listen config written address said.journal said.follow said.log said.status)
+    else Ok (Listen config written address said.journal said.follow said.log said.status said.watch)
 listen_saying config written address (Err wrong) = Err wrong
 
 -- the same, of which the address is read
@@ -70,7 +70,7 @@ abbrev pub listen_at : List ℕ → List ℕ → Option SocketAddr → List (Lis
 listen_at config written None options = Err NoAddress
 listen_at config written (Some address) options = listen_saying config written address (options_in known.All options)
 
--- `listen CONFIG ADDR [--journal FILE | --follow FILE] [--log | --log=json] [--status ADDR]`
+-- `listen CONFIG ADDR [--journal FILE | --follow FILE] [--log | --log=json] [--status ADDR] [--watch SECONDS]`
 abbrev pub listen_in : List (List ℕ) → Result Asked Wrong
 listen_in (config ∷ written ∷ options) = listen_at config written (listen_address_of written) options
 listen_in words = Err NoCommand

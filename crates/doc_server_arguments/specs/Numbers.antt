@@ -1,5 +1,5 @@
 -- Numbers, as arguments write them.
-use Rattle.std.specs.Prelude.{ℕ, List, length, Bool, not, ◌&&◌, ◌==◌, ◌^◌, nat_lt, Option, Some, None, if◌then◌else◌}
+use Rattle.std.specs.Prelude.{ℕ, List, length, Bool, not, ◌&&◌, ◌==◌, ◌^◌, nat_le, nat_lt, Option, Some, None, option_and_then, if◌then◌else◌}
 use Rattle.std.specs.Char.{is_ascii_digit}
 use Rattle.std.specs.List.{list_all}
 use Rattle.std.specs.Str.Parse.{digits_value}
@@ -15,6 +15,13 @@ number_below limit word = if are_digits word && nat_lt (digits_value 10 word) li
 -- a number of a u32
 abbrev pub count_of : List ℕ → Option ℕ
 count_of word = number_below (2 ^ 32) word
+
+-- seconds from one look to the next: 1 to 3,600
+abbrev pub is_pause : ℕ → Bool
+is_pause seconds = nat_le 1 seconds && nat_le seconds 3600
+
+abbrev pub pause_of : List ℕ → Option ℕ
+pause_of word = option_and_then (λ seconds. if is_pause seconds then Some seconds else None) (count_of word)
 
 -- a number of a u16, as a port is
 abbrev pub port_of : List ℕ → Option ℕ

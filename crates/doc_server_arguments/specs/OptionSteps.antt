@@ -8,9 +8,10 @@ use Rattle.doc_server_arguments.specs.declared.options.Known.{Known}
 use Rattle.doc_server_arguments.specs.declared.options.Options.{Options}
 use Rattle.doc_server_arguments.specs.declared.usage_fault.UsageFault.{UsageFault}
 use Rattle.doc_server_arguments.specs.Addresses.{listen_address_of}
-use Rattle.doc_server_arguments.specs.Options.{Said, Stated, follow_word, form_of, journal_word, log_word, names_of, stated, status_word}
+use Rattle.doc_server_arguments.specs.Options.{Said, Stated, follow_word, form_of, journal_word, log_word, names_of, stated, status_word, watch_word}
+use Rattle.doc_server_arguments.specs.Numbers.{pause_of}
 use Rattle.doc_server_arguments.specs.Texts.{texts}
-use Rattle.doc_server_arguments.specs.Usage.{Wrong, NoAddress, UnknownOption, StandsTwice, NeedsFile, NeedsAddress, fault_shown}
+use Rattle.doc_server_arguments.specs.Usage.{Wrong, NoAddress, UnknownOption, StandsTwice, NeedsFile, NeedsAddress, NeedsSeconds, fault_shown}
 
 -- what options say, of those that the code has
 abbrev pub said_so_far : Options → Said
@@ -19,6 +20,7 @@ said_so_far options = record {
   follow = option_copied options.follow;
   log = options.log;
   status = options.status;
+  watch = options.watch;
 }
 
 abbrev pub shown_options : Result Options UsageFault → Result Said Wrong
@@ -52,6 +54,17 @@ status_taken said word (Some before) written = Err (StandsTwice word)
 status_taken said word None None = Err (NeedsAddress word)
 status_taken said word None (Some written) = status_at said (listen_address_of written)
 
+-- looks after so many seconds each, once they are read
+abbrev pub watch_each : Said → Option ℕ → Result Said Wrong
+watch_each said None = Err NeedsSeconds
+watch_each said (Some seconds) = Ok (record said { watch = Some seconds })
+
+-- seconds that the option before which they stand takes, by what an earlier one took
+abbrev pub watch_taken : Said → List ℕ → Option ℕ → Option (List ℕ) → Result Said Wrong
+watch_taken said word (Some before) written = Err (StandsTwice word)
+watch_taken said word None None = Err NeedsSeconds
+watch_taken said word None (Some written) = watch_each said (pause_of written)
+
 -- what is said with one option more
 abbrev pub taken_one : Known → Said → Stated → Result Said Wrong
 taken_one known said option =
@@ -59,7 +72,8 @@ taken_one known said option =
     else (if bytes_eq option.word journal_word then journal_taken said option.word said.journal option.value
     else (if bytes_eq option.word follow_word then follow_taken said option.word said.follow option.value
     else (if bytes_eq option.word status_word then status_taken said option.word said.status option.value
-    else log_taken said (form_of option.word) said.log)))
+    else (if bytes_eq option.word watch_word then watch_taken said option.word said.watch option.value
+    else log_taken said (form_of option.word) said.log))))
 
 -- what a function says of what is said
 abbrev pub onward : (Said → Result Said Wrong) → Result Said Wrong → Result Said Wrong
@@ -100,3 +114,18 @@ address_behind option None (written ∷ rest) = address_and (listen_address_of w
 abbrev pub shown_address : {A : Type 0} → Result (SocketAddr × Bor (List (String A))) UsageFault → Result (SocketAddr × List (List ℕ)) Wrong
 shown_address (Ok left) = Ok (left.0, texts left.1.now)
 shown_address (Err fault) = Err (fault_shown fault)
+
+-- seconds, once they are read, and the words behind them
+abbrev pub pause_and : Option ℕ → List (List ℕ) → Result (ℕ × List (List ℕ)) Wrong
+pause_and None rest = Err NeedsSeconds
+pause_and (Some seconds) rest = Ok (seconds, rest)
+
+-- the seconds of an option and the words behind it, by what an earlier one took
+abbrev pub pause_behind : List ℕ → Option ℕ → List (List ℕ) → Result (ℕ × List (List ℕ)) Wrong
+pause_behind option (Some before) behind = Err (StandsTwice option)
+pause_behind option None [] = Err NeedsSeconds
+pause_behind option None (written ∷ rest) = pause_and (pause_of written) rest
+
+abbrev pub shown_pause : {A : Type 0} → Result (ℕ × Bor (List (String A))) UsageFault → Result (ℕ × List (List ℕ)) Wrong
+shown_pause (Ok left) = Ok (left.0, texts left.1.now)
+shown_pause (Err fault) = Err (fault_shown fault)

@@ -72,6 +72,8 @@ pub struct Listen<'a> {
     pub log: Option<LogForm>,
     /// Where monitors are answered, if they are.
     pub status: Option<SocketAddr>,
+    /// After how many seconds it is looked whether files have changed, if it is.
+    pub watch: Option<u32>,
 }
 
 /// A journal that is written anew, of the site that its edits lead to.

@@ -107,7 +107,7 @@ fn serve_of(words: &[String]) -> Result<Command<'_>, UsageFault<'_>>
     }))
 }
 
-/// `listen CONFIG ADDR [--journal FILE | --follow FILE] [--log | --log=json] [--status ADDR]`
+/// `listen CONFIG ADDR [--journal FILE | --follow FILE] [--log | --log=json] [--status ADDR] [--watch SECONDS]`
 fn listen_of(words: &[String]) -> Result<Command<'_>, UsageFault<'_>>
     ensures { shown_command result ≡ listen_in (texts words.now) }
 {
@@ -129,6 +129,7 @@ fn listen_of(words: &[String]) -> Result<Command<'_>, UsageFault<'_>>
         follow: options.follow,
         log: options.log,
         status: options.status,
+        watch: options.watch,
     }))
 }
 

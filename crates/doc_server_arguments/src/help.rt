@@ -3,7 +3,7 @@
 /// The commands, a line or two each, of at most 100 characters. It is printed without a line feed at its end.
 pub const HELP: &str = "docs_server COMMAND, one of
 
-listen CONFIG ADDR [--journal FILE | --follow FILE] [--log] [--status ADDR]
+listen CONFIG ADDR [--journal FILE | --follow FILE] [--log] [--status ADDR] [--watch SECONDS]
                                              serves the site to all who come
 lint CONFIG [--journal FILE]                 tells what is wrong with the configuration, a line each
 folders CONFIG                               tells which files of CONFIG's folders are bad
@@ -22,4 +22,5 @@ examples FILE                                compares the examples of CommonMark
 ADDR is an IP address and a port, as 127.0.0.1:8080; for listen also localhost:8080.
 --follow has it follow another server's journal, and take no edits.
 --log tells each request on standard error; --log=json does so as JSON, an object a line.
---status has monitors answered at another address: /health and /metrics.";
+--status has monitors answered at another address: /health and /metrics.
+--watch has it reload where files of CONFIG have changed, which is looked after so many seconds.";

@@ -3,7 +3,7 @@
 ghost use Rattle.std.specs.Prelude.{◌≡◌};
 ghost use Rattle.std.specs.Char.{is_ascii_digit};
 ghost use Rattle.std.specs.List.{list_all};
-ghost use Rattle.doc_server_arguments.specs.Numbers.{are_digits, count_of, port_of};
+ghost use Rattle.doc_server_arguments.specs.Numbers.{are_digits, count_of, is_pause, pause_of, port_of};
 
 /// The number of digits, where it is below 2^32.
 pub(crate) fn count_of(word: &str) -> Option<u32>
@@ -16,6 +16,22 @@ pub(crate) fn count_of(word: &str) -> Option<u32>
         Ok(count) => Some(count),
         Err(_) => None,
     }
+}
+
+/// Seconds from one look to the next, 1 to 3,600.
+pub(crate) fn pause_of(word: &str) -> Option<u32>
+    ensures { result ≡ pause_of word.now }
+{
+    match count_of(word) {
+        Some(seconds) if is_pause(seconds) => Some(seconds),
+        _ => None,
+    }
+}
+
+fn is_pause(seconds: u32) -> bool
+    ensures { result ≡ is_pause seconds }
+{
+    1 <= seconds && seconds <= 3_600
 }
 
 /// The number of digits, where it is below 2^16.

@@ -3,11 +3,12 @@
 ghost use Rattle.std.specs.Prelude.{◌≡◌, ◌∷◌, ◌≤◌, IfOk, length, option_copied};
 ghost use Rattle.doc_server_arguments.specs.Texts.{texts};
 ghost use Rattle.doc_server_arguments.specs.Options.{options_in, stated};
-ghost use Rattle.doc_server_arguments.specs.OptionSteps.{address_behind, file_behind, log_taken, said_so_far};
-ghost use Rattle.doc_server_arguments.specs.OptionSteps.{shown_address, shown_file, shown_options, taken_all, taken_behind};
+ghost use Rattle.doc_server_arguments.specs.OptionSteps.{address_behind, file_behind, log_taken, pause_behind, said_so_far};
+ghost use Rattle.doc_server_arguments.specs.OptionSteps.{shown_address, shown_file, shown_options, shown_pause, taken_all, taken_behind};
 
 use crate::address::listen_address_of;
 use crate::log_form::LogForm;
+use crate::number::pause_of;
 use crate::usage_fault::UsageFault;
 use doc_page_parts::heap::String;
 use std::net::SocketAddr;
@@ -15,7 +16,7 @@ use std::net::SocketAddr;
 /// Which options a command has.
 #[derive(Clone, Copy, Debug, PartialEq, Eq)]
 pub(crate) enum Known {
-    /// `--journal FILE`, `--follow FILE`, `--log` or `--log=json`, and `--status ADDR`.
+    /// `--journal FILE`, `--follow FILE`, `--log` or `--log=json`, `--status ADDR` and `--watch SECONDS`.
     All,
     /// `--journal FILE` alone.
     Journal,
@@ -32,6 +33,8 @@ pub(crate) struct Options<'a> {
     pub(crate) log: Option<LogForm>,
     /// Where monitors are answered, if they are.
     pub(crate) status: Option<SocketAddr>,
+    /// After how many seconds it is looked whether files have changed, if it is.
+    pub(crate) watch: Option<u32>,
 }
 
 /// The options that these words are.
@@ -46,6 +49,7 @@ pub(crate) fn options_of<'a>(
         follow: None,
         log: None,
         status: None,
+        watch: None,
     };
     let mut rest = words;
     'options: while let Some((option, behind)) = rest.split_first() {
@@ -57,7 +61,6 @@ pub(crate) fn options_of<'a>(
 }
 
 /// The options with one more, and the words behind that.
-#[tactic(auto, using(crate::proofs::TakenLaws::none_of_five))]
 fn taken<'a>(
     known: Known,
     options: Options<'a>,
@@ -92,6 +95,11 @@ fn taken<'a>(
             let (address, rest) = address_behind(option, options.status, behind)?;
             let status = Some(address);
             Ok((Options { status, ..options }, rest))
+        }
+        "--watch" => {
+            let (seconds, rest) = pause_behind(option, options.watch, behind)?;
+            let watch = Some(seconds);
+            Ok((Options { watch, ..options }, rest))
         }
         _ => Err(UsageFault::UnknownOption(option)),
     }
@@ -147,5 +155,26 @@ fn address_behind<'a>(
     match listen_address_of(written.as_str()) {
         Some(address) => Ok((address, rest)),
         None => Err(UsageFault::Address),
+    }
+}
+
+/// The seconds of an option, by what an earlier one said, and the words behind it.
+fn pause_behind<'a>(
+    option: &'a str,
+    earlier: Option<u32>,
+    behind: &'a [String],
+) -> Result<(u32, &'a [String]), UsageFault<'a>>
+    ensures same { shown_pause result ≡ pause_behind option.now earlier (texts behind.now) }
+    ensures fewer { IfOk result (λ left. length left.1.now ≤ length behind.now) }
+{
+    if earlier.is_some() {
+        return Err(UsageFault::StandsTwice(option));
+    }
+    let Some((written, rest)) = behind.split_first() else {
+        return Err(UsageFault::NeedsSeconds);
+    };
+    match pause_of(written.as_str()) {
+        Some(seconds) => Ok((seconds, rest)),
+        None => Err(UsageFault::NeedsSeconds),
     }
 }

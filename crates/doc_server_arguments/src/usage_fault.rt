@@ -17,6 +17,8 @@ pub enum UsageFault<'a> {
     NeedsFile(&'a str),
     /// No address stands behind this option.
     NeedsAddress(&'a str),
+    /// Behind `--watch` stands no number from 1 to 3,600.
+    NeedsSeconds,
     /// No names of groups stand behind `--groups`.
     NeedsGroups,
     /// This option stands before already.
@@ -49,6 +51,9 @@ impl fmt::Display for UsageFault<'_> {
             UsageFault::NeedsAddress(word) => {
                 let word = ShownWord::new(word);
                 write!(f, "{word} needs an address\ndocs_server: usage")
+            }
+            UsageFault::NeedsSeconds => {
+                f.write_str("--watch needs seconds: 1 to 3600\ndocs_server: usage")
             }
             UsageFault::NeedsGroups => {
                 f.write_str("--groups needs names of groups: a,b\ndocs_server: usage")

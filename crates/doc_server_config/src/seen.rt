@@ -1,14 +1,16 @@
-//! A file that was found in a folder, and what the system tells of it.
+//! A file, and what the system tells of it.
 
-use doc_page_parts::heap::String;
-use std::fs::Metadata;
+use doc_page_parts::failure::Memory;
+use doc_page_parts::heap::{Heap, String};
+use std::fs::{Metadata, metadata};
 use std::os::unix::fs::MetadataExt;
+use std::rt::Files;
 
-/// A file that was found in a folder. Two that are equal have one name, and between the looks that found them the file hasn't changed: that
+/// A file that was seen. Two that are equal have one name, and between the looks that found them the file hasn't changed: that
 /// the system tells each change of a file by its times is trusted.
 #[derive(Drop, PartialEq, Eq, PartialOrd, Ord)]
 pub struct Seen {
-    /// Its name, from the folder that was looked into.
+    /// Its name, from the folder that was looked into, where it was found in one.
     pub name: String,
     stamp: Stamp,
 }
@@ -38,6 +40,14 @@ impl Seen {
             changed_nanos: found.ctime_nsec(),
         };
         Seen { name, stamp }
+    }
+
+    /// The file of this name as it is now; none where the system tells of none.
+    pub fn of_file<R: Files>(rt: &R, heap: Heap, name: &str) -> Result<Option<Seen>, Memory> {
+        match metadata(rt, name) {
+            Ok(found) => Ok(Some(Seen::new(String::from_str(heap, name)?, &found))),
+            Err(_) => Ok(None),
+        }
     }
 
     /// How many bytes it had.

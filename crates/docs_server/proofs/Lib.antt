@@ -1,3 +1,2 @@
 mod AnswerSteps
-mod LintSteps
-mod StoreSteps
+mod ConfiguredSteps

@@ -7,7 +7,7 @@ use Rattle.doc_server_restore.specs.Restores.{restored, unstamped}
 use Rattle.doc_server_serving.specs.declared.given.Given.{Given}
 use Rattle.doc_server_serving.specs.declared.given.Given.TheVariants as givens
 use Rattle.docs_server.specs.Followed.{AreAllTaken}
-use Rattle.docs_server.specs.Reloading.{IsConfigured}
+use Rattle.doc_server_files.specs.Configured.{IsConfigured}
 
 -- the pages of some configuration, with the edits of all records of some journal on them, made beside these media
 pub record IsConfiguredBehind (media : Media) (pages : StoreState) : Type 0 where

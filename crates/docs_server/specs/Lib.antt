@@ -1,9 +1,6 @@
-pub mod Compacting
 pub mod Followed
 pub mod Following
-pub mod Linting
 pub mod Listening
-pub mod Moving
 pub mod NamedDevices
 pub mod Reloading
 pub mod Serving

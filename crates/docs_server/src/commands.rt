@@ -2,13 +2,13 @@
 
 ghost use Rattle.std.specs.Prelude.{◌≡◌, ◌<◌};
 
-use crate::files::open_file;
 use doc_html::CommonMark;
 use doc_lines::entities::Entities;
 use doc_page::renderer::Renderer;
 use doc_server::demo::demo;
 use doc_server::examples::examples;
 use doc_server::rendering::render;
+use doc_server_files::files::open_file;
 use doc_server_streams::fault::Fault;
 use doc_server_streams::read_from::ReadFrom;
 use doc_server_streams::write_to::WriteTo;

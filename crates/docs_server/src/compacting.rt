@@ -1,10 +1,7 @@
 //! The command `compact`: a journal is written anew, of the site that its edits lead to.
 
-use crate::bounded::{Bounded, read_bounded};
-use crate::files::{Pages, Site};
 use crate::held::hold;
 use crate::listen_fault::ListenFault;
-use crate::site_store::configured_store;
 use crate::status::status_of;
 use crate::system_place::SystemPlace;
 use crate::told_folders::tell_passed;
@@ -14,6 +11,9 @@ use doc_page_parts::list::List;
 use doc_server_arguments::command::Compact;
 use doc_server_compacting::compacting::compact_file;
 use doc_server_config::readme::Move;
+use doc_server_files::bounded::{Bounded, read_bounded};
+use doc_server_files::files::{Pages, Site};
+use doc_server_files::site_store::configured_store;
 use doc_server_journal::clock::seconds_of;
 use doc_server_journal::random::new_identity;
 use doc_store::store::Store;

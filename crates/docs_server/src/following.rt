@@ -5,12 +5,12 @@ ghost use Rattle.docs_server.specs.Following.{HasGiven, IsConfiguredBehind};
 
 use crate::followed_journal::{FollowedJournal, take_journal, unread};
 use crate::listen_fault::ListenFault;
+use crate::pause::has_passed;
 use crate::reload_fault::ReloadFault;
 use crate::reloading::{REFUSED, Reloading};
 use crate::shared::Shared;
 use doc_media::media::Media;
 use doc_page_parts::heap::Heap;
-use doc_page_parts::text::Text;
 use doc_server_follow::growing_fault::GrowingFault;
 use doc_server_follow::looked::Looked;
 use doc_server_journal::fault::OpenFault;
@@ -40,11 +40,11 @@ const SHORT_PAUSE: u64 = 200;
 
 /// Another server's journal, whose records are served on the pages of a configuration.
 #[derive(Drop)]
-pub struct Following<'a, P> {
+pub struct Following<'a, P: Files> {
     rt: &'a P,
     heap: Heap,
     /// The name of the journal's file.
-    name: Text,
+    name: &'a str,
     config: Reloading<'a, P>,
     shared: &'a Shared,
     journal: FollowedJournal,
@@ -88,7 +88,7 @@ impl<'a, P: AllocGlobal + Clock + Clone + Drop + Eprint + Files<File = File> + I
     /// The journal of this name, whose records are served on the pages of a configuration as far as it was taken.
     pub fn new(
         rt: &'a P,
-        name: Text,
+        name: &'a str,
         config: Reloading<'a, P>,
         journal: FollowedJournal,
         shared: &'a Shared,
@@ -149,7 +149,7 @@ impl<'a, P: AllocGlobal + Clock + Clone + Drop + Eprint + Files<File = File> + I
             },
         ) = self.trouble
         {
-            let fault = unread(self.heap, self.name.get(), fault);
+            let fault = unread(self.heap, self.name, fault);
             let _ = eprintln!(self.rt; "{FOLLOWING}: {fault}");
             return fault;
         }
@@ -177,7 +177,7 @@ impl<'a, P: AllocGlobal + Clock + Clone + Drop + Eprint + Files<File = File> + I
                 Ok(self.start_over_if_replaced(media))
             }
             Ok(Looked::WentBack) => {
-                let name = self.name.get();
+                let name = self.name;
                 let _ = eprintln!(self.rt; "{FOLLOWING}: {name} went back");
                 Ok(self.begin_anew(false, media))
             }
@@ -195,7 +195,7 @@ impl<'a, P: AllocGlobal + Clock + Clone + Drop + Eprint + Files<File = File> + I
         ensures answers { IfOk result (HasGiven self.new.count) }
         ensures count { self.old.count ≤ self.new.count }
     {
-        if self.journal.file.is_replaced(self.rt, self.name.get()) {
+        if self.journal.file.is_replaced(self.rt, self.name) {
             return Ok(self.begin_anew(true, media));
         }
         let now = Instant::now(self.rt).ok();
@@ -220,7 +220,7 @@ impl<'a, P: AllocGlobal + Clock + Clone + Drop + Eprint + Files<File = File> + I
         ensures answers { HasGiven self.new.count result }
         ensures count { self.old.count ≤ self.new.count }
     {
-        if !self.journal.file.is_replaced(self.rt, self.name.get()) {
+        if !self.journal.file.is_replaced(self.rt, self.name) {
             return None;
         }
         self.begin_anew(true, media)
@@ -252,6 +252,7 @@ impl<'a, P: AllocGlobal + Clock + Clone + Drop + Eprint + Files<File = File> + I
             return None;
         }
         let word = if anew.is_told { None } else { Some(FOLLOWING) };
+        self.config.begin_reload(false);
         match self.read_anew(media, word) {
             Ok(configuration) => {
                 self.is_asked = false;
@@ -285,11 +286,13 @@ impl<'a, P: AllocGlobal + Clock + Clone + Drop + Eprint + Files<File = File> + I
         });
     }
 
-    /// What stands under the journal's name, on the pages of the configuration, as a line on standard input has asked for.
-    fn reload(&mut self, media: &Option<Media>) -> Option<Given>
+    /// What stands under the journal's name, on the pages of the configuration, as a line on standard input has asked for, or, where it is
+    /// quiet, since files have changed.
+    fn reload(&mut self, media: &Option<Media>, is_quiet: bool) -> Option<Given>
         ensures answers { HasGiven self.new.count result }
         ensures count { self.old.count ≤ self.new.count }
     {
+        self.config.begin_reload(is_quiet);
         match self.read_anew(media, Some(REFUSED)) {
             Ok(configuration) => {
                 self.is_asked = true;
@@ -312,7 +315,7 @@ impl<'a, P: AllocGlobal + Clock + Clone + Drop + Eprint + Files<File = File> + I
             (λ given. IsConfiguredBehind given.media given.pages) }
         ensures count { self.new.count ≡ self.old.count }
     {
-        let (journal, texts) = take_journal(self.rt, self.heap, self.name.get())?;
+        let (journal, texts) = take_journal(self.rt, self.heap, self.name)?;
         let given = self.config.reload(served, word)?;
         let Configuration {
             readers,
@@ -410,7 +413,10 @@ impl<P: AllocGlobal + Clock + Clone + Drop + Eprint + Files<File = File> + Input
         has_input: bool,
     ) -> Result<Option<Given>, FollowFault> {
         if has_input && self.config.is_asked() {
-            return Ok(self.reload(media));
+            return Ok(self.reload(media, false));
+        }
+        if self.anew.is_none() && self.config.is_looking() && self.config.has_changed() {
+            return Ok(self.reload(media, true));
         }
         self.follow(media)
     }
@@ -424,13 +430,5 @@ impl<P: AllocGlobal + Clock + Clone + Drop + Eprint + Files<File = File> + Input
 
     fn note(&mut self, pages: usize, _journal_bytes: Option<usize>) {
         self.shared.tell_followed(pages, &self.journal.followed);
-    }
-}
-
-/// Whether so long a time has passed between two moments; where one of them isn't known it hasn't.
-fn has_passed(since: Option<Instant>, now: Option<Instant>, time: Duration) -> bool {
-    match (since, now) {
-        (Some(since), Some(now)) => now.duration_since(since) >= time,
-        _ => false,
     }
 }

@@ -1,12 +1,12 @@
 //! What a configuration gives that is read anew, until it is served.
 
-use crate::files::Pages;
 use crate::made_pages::MadePages;
 use doc_media::media::Media;
 use doc_page_parts::heap::Heap;
 use doc_page_parts::list::List;
 use doc_server_config::document::Document;
 use doc_server_config::readme::Move;
+use doc_server_files::files::Pages;
 use doc_server_log_names::names::Names;
 use doc_server_streams::fault::Fault;
 

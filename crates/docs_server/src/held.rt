@@ -1,7 +1,7 @@
 //! Descriptors of standard streams that are closed.
 
-use crate::files::open_file;
 use doc_page_parts::heap::Heap;
+use doc_server_files::files::open_file;
 use doc_server_streams::fault::Fault;
 use doc_server_streams::read_from::ReadFrom;
 use std::rt::Files;

@@ -1,11 +1,8 @@
 //! What stops the commands `listen` and `compact`.
 
 use doc_page_parts::failure::Memory;
-use doc_page_parts::path::Path;
 use doc_server_compacting::fault::CompactingFault;
-use doc_server_config::bad_file::BadFile;
-use doc_server_config::browsing::BrowseError;
-use doc_server_config::listening::ListeningError;
+use doc_server_files::site_fault::SiteFault;
 use doc_server_journal::fault::OpenFault;
 use doc_server_journal::file_fault::FileFault;
 use doc_server_restore::compact_fault::CompactFault;
@@ -23,18 +20,9 @@ pub enum ListenFault {
     /// What stops other commands too.
     #[error("{0}")]
     Command(Fault),
-    /// What the configuration says of a server that runs is bad.
-    #[error("config: {0}")]
-    Listening(ListeningError),
-    /// What it says of the pages for people is bad.
-    #[error("config: {0}")]
-    Browsing(BrowseError),
-    /// A file of a folder is bad.
-    #[error("cannot read {0}")]
-    Bad(BadFile),
-    /// Two pages have this path, of which one is a folder's.
-    #[error("config: {} twice", .0.text())]
-    Twice(Path),
+    /// The configuration's site isn't read.
+    #[error("{0}")]
+    Site(SiteFault),
     /// The journal's file isn't opened.
     #[error("{0}")]
     File(FileFault),
@@ -69,6 +57,17 @@ impl From<Fault> for ListenFault {
 
     fn from(fault: Fault) -> ListenFault {
         ListenFault::Command(fault)
+    }
+}
+
+impl From<SiteFault> for ListenFault {
+    ghost use Rattle.std.specs.Prelude.{◌≡◌};
+    ghost use Rattle.docs_server.specs.declared.listen_fault.ListenFault.TheVariants as faults;
+
+    ghost from_gives = { λ fault stop. stop ≡ faults.Site fault };
+
+    fn from(fault: SiteFault) -> ListenFault {
+        ListenFault::Site(fault)
     }
 }
 

@@ -8,15 +8,12 @@ ghost use Rattle.docs_server.specs.Followed.{IsFollowed};
 ghost use Rattle.docs_server.specs.Listening.{IsReady};
 
 use crate::access_log::AccessLog;
-use crate::bounded::{Bounded, read_bounded};
 use crate::ended::ended_status;
-use crate::files::{Pages, Site};
 use crate::followed_journal::{FollowedJournal, take_journal};
 use crate::following::Following;
-use crate::held::hold;
+use crate::held::{Held, hold};
 use crate::listen_fault::ListenFault;
 use crate::monitors::Monitors;
-use crate::moving::make_moves;
 use crate::reloading::Reloading;
 use crate::reloading_in_steps::ReloadingInSteps;
 use crate::shared::Shared;
@@ -30,13 +27,16 @@ use doc_media::media::Media;
 use doc_page::renderer::Renderer;
 use doc_page_parts::heap::Heap;
 use doc_page_parts::list::List;
-use doc_page_parts::text::Text;
 use doc_server::site::site_hub_taking;
 use doc_server_arguments::command::Listen;
 use doc_server_arguments::log_form::LogForm;
 use doc_server_config::bounds::Bounds;
 use doc_server_config::config::SiteConfig;
+use doc_server_config::document::Document;
 use doc_server_config::readme::Move;
+use doc_server_files::bounded::{Bounded, read_bounded};
+use doc_server_files::files::{Pages, Site};
+use doc_server_files::moving::make_moves;
 use doc_server_log_names::lines::{Askers, Lines};
 use doc_server_log_names::names::Names;
 use doc_server_restore::restore::restore;
@@ -97,6 +97,24 @@ fn listen_configured<
     requires some { 0 < L.parts }
 {
     let (document, bounded) = read_bounded(rt, command.config)?;
+    listen_bounded::<L, P>(rt, blank, command, document, bounded)
+}
+
+/// The same of a configuration that is read.
+fn listen_bounded<
+    L: Ledger,
+    P: AllocGlobal + Clock + Clone + Drop + Eprint + Files<File = File> + Input + Net + Print,
+>(
+    rt: &P,
+    blank: Blank,
+    command: &Listen<'_>,
+    document: Document,
+    bounded: Bounded,
+) -> Result<u8, ListenFault>
+    requires name { blank.name ≡ L.name }
+    requires parts { blank.parts ≡ L.parts }
+    requires some { 0 < L.parts }
+{
     let Bounded {
         site,
         bounds,
@@ -112,7 +130,7 @@ fn listen_configured<
     let login = takes_logins(&pages.config);
     let form = lines_of(command.log, Askers { names, login });
     let media_count = media_paths.get().len();
-    let config = Reloading::new(rt, command.config, document, media_count, &shared)?;
+    let config = Reloading::new(rt, command, document, media_count, &shared);
     let front = pages.config.markdown.front;
     let renderer: CommonMark<L> = CommonMark::with_front(entities, blank, front);
     let ready = Ready {
@@ -125,13 +143,8 @@ fn listen_configured<
         shared: &shared,
     };
     match command.follow {
-        None => {
-            let mut source = ReloadingInSteps::new(config);
-            listen_with(rt, renderer, ready, bounds, command, told, &mut source)
-        }
-        Some(name) => follow_with(
-            rt, renderer, ready, bounds, command, told, name, config, &shared,
-        ),
+        None => listen_with(rt, renderer, ready, &bounds, command, told, config),
+        Some(name) => follow_with(rt, renderer, ready, &bounds, command, told, name, config),
     }
 }
 
@@ -139,19 +152,19 @@ fn listen_configured<
 fn listen_with<
     'a,
     R: Renderer + Drop,
-    P: AllocGlobal + Clock + Eprint + Files<File = File> + Net + Print,
-    S: Source,
+    P: AllocGlobal + Clock + Clone + Drop + Eprint + Files<File = File> + Input + Net + Print,
 >(
     rt: &'a P,
     renderer: R,
     ready: Ready,
-    bounds: Bounds,
+    bounds: &Bounds,
     command: &Listen<'_>,
     told: Told<'a, P>,
-    source: &mut S,
+    config: Reloading<'a, P>,
 ) -> Result<u8, ListenFault> {
     let hub = hub_of(rt.alloc(), renderer, ready, true)?;
-    serve_hub(rt, hub, &bounds, command, told, source)
+    let mut source = ReloadingInSteps::new(config);
+    serve_hub(rt, hub, bounds, command, told, &mut source)
 }
 
 /// The same where another server's journal is followed, the file of this name.
@@ -163,22 +176,31 @@ fn follow_with<
     rt: &'a P,
     renderer: R,
     ready: Ready,
-    bounds: Bounds,
+    bounds: &Bounds,
     command: &Listen<'_>,
     told: Told<'a, P>,
-    name: &str,
+    name: &'a str,
     config: Reloading<'a, P>,
-    shared: &'a Shared,
 ) -> Result<u8, ListenFault> {
-    let heap = rt.alloc();
-    let mut hub = hub_of(heap, renderer, ready, false)?;
-    let journal = followed_by(rt, heap, &mut hub, name)?;
-    let name = Text::copy_of(heap, name)?;
-    let mut source = Following::new(rt, name, config, journal, shared);
-    match serve_hub(rt, hub, &bounds, command, told, &mut source) {
+    let (hub, journal) = followed_hub(rt, rt.alloc(), renderer, ready, name)?;
+    let mut source = Following::new(rt, name, config, journal, told.shared);
+    match serve_hub(rt, hub, bounds, command, told, &mut source) {
         Err(ListenFault::Follow(fault)) => Err(source.ended(fault)),
         status => status,
     }
+}
+
+/// A hub with all pages and the edits of the journal of this name, as far as that stands.
+fn followed_hub<R: Renderer + Drop, P: Files<File = File>>(
+    rt: &P,
+    heap: Heap,
+    renderer: R,
+    ready: Ready,
+    name: &str,
+) -> Result<(Hub<R>, FollowedJournal), ListenFault> {
+    let mut hub = hub_of(heap, renderer, ready, false)?;
+    let journal = followed_by(rt, heap, &mut hub, name)?;
+    Ok((hub, journal))
 }
 
 /// A hub with all pages, which takes edits or doesn't.
@@ -235,7 +257,7 @@ fn serve_hub<
     source: &mut S,
 ) -> Result<u8, ListenFault> {
     let heap = rt.alloc();
-    let _held = hold(rt, heap, command.config)?;
+    let (_held, monitors) = held_and_monitors(rt, heap, command, &told.shared.standing)?;
     let host = System {
         rt,
         heap,
@@ -244,7 +266,6 @@ fn serve_hub<
         hears_input: is_pipe(rt),
         shared: told.shared,
     };
-    let monitors = monitors_of(rt, command.status, &told.shared.standing)?;
     let watch = Watching::of(rt, told.log, monitors);
     let ended = listen_on(rt, heap, &host, hub, bounds, command.journal, watch, source)?;
     ended_status(&ended)
@@ -281,6 +302,18 @@ fn listen_on<H: Host, R: Renderer + Drop, C: Clock, W: Watch + Drop, S: Source>(
         follow_millis: bounds.follow_millis,
     };
     host_site(rt, heap, host, hub, &terms, watch, source)
+}
+
+/// What is held open while a server runs, and the door for monitors, where the arguments ask for one.
+fn held_and_monitors<'a, P: AllocGlobal + Files + Net>(
+    rt: &P,
+    heap: Heap,
+    command: &Listen<'_>,
+    standing: &'a Cell<Standing>,
+) -> Result<(Held<P::File>, Option<Monitors<'a>>), ListenFault> {
+    let held = hold(rt, heap, command.config)?;
+    let monitors = monitors_of(rt, command.status, standing)?;
+    Ok((held, monitors))
 }
 
 /// The door for monitors, where the arguments ask for one.

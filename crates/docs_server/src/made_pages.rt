@@ -3,13 +3,13 @@
 ghost use Rattle.std.specs.Prelude.{◌≡◌, Some, IfOk};
 ghost use Rattle.std.specs.Coded.{Coded-set, coded_option};
 ghost use Rattle.doc_server_restore.specs.Restores.{unstamped};
-ghost use Rattle.docs_server.specs.Reloading.{IsConfigured, configured_pages};
+ghost use Rattle.doc_server_files.specs.Configured.{IsConfigured, configured_pages};
 
-use crate::files::Pages;
-use crate::site_store::configured_store;
 use doc_page_parts::heap::Heap;
 use doc_page_parts::list::List;
 use doc_server_config::readme::Move;
+use doc_server_files::files::Pages;
+use doc_server_files::site_store::configured_store;
 use doc_server_streams::fault::Fault;
 use doc_store::readers::Readers;
 use doc_store::store::Store;

@@ -1,14 +1,15 @@
 //! A configuration whose folders are read a part at a time.
 
-use crate::bounded::Opened;
-use crate::folder_rows::FolderRows;
 use crate::listen_fault::ListenFault;
-use crate::looking::{Look, Looking};
 use crate::reload_fault::ReloadFault;
-use crate::rows_reading::RowsReading;
 use doc_page_parts::failure::Memory;
 use doc_page_parts::heap::Heap;
 use doc_server_config::document::Document;
+use doc_server_files::bounded::Opened;
+use doc_server_files::folder_rows::FolderRows;
+use doc_server_files::looking::{Look, Looking};
+use doc_server_files::rows_reading::RowsReading;
+use doc_server_files::seen_files::SeenFiles;
 use std::rt::Files;
 
 /// How often the folders are read again where files of theirs have changed meanwhile.
@@ -20,6 +21,8 @@ const MORE_TRIES: u32 = 8;
 pub struct Reading<R: Files> {
     document: Document,
     opened: Opened,
+    /// The files that it names, as they were before they were read.
+    seen: SeenFiles,
     rows: RowsReading<R>,
     /// Whether all is read, and the look at it behind that.
     is_read: bool,
@@ -28,25 +31,53 @@ pub struct Reading<R: Files> {
     tries: u32,
 }
 
+/// A configuration that is read up to its folders.
+#[derive(Drop)]
+pub struct OpenedConfig {
+    pub document: Document,
+    pub opened: Opened,
+    /// The files that it names, as they were before they were read.
+    pub seen: SeenFiles,
+}
+
 /// A configuration whose folders were read.
 pub struct ReadFolders {
     pub document: Document,
     pub opened: Opened,
     pub rows: FolderRows,
+    /// Its files, as they were before they were read.
+    pub seen: SeenFiles,
 }
 
 impl<R: AllocGlobal + Files + Clone + Drop> Reading<R> {
     /// Nothing of the folders is read yet.
-    pub fn begin(heap: Heap, document: Document, opened: Opened) -> Result<Reading<R>, Memory> {
+    pub fn begin(heap: Heap, config: OpenedConfig) -> Result<Reading<R>, Memory> {
+        let OpenedConfig {
+            document,
+            opened,
+            seen,
+        } = config;
         let rows = opened.begin_folders(heap, false)?;
         Ok(Reading {
             document,
             opened,
+            seen,
             rows,
             is_read: false,
             looking: Looking::new(),
             tries: MORE_TRIES,
         })
+    }
+
+    /// All of the folders is read once, and not looked at again.
+    pub fn all(rt: &R, heap: Heap, config: OpenedConfig) -> Result<Reading<R>, ReloadFault> {
+        let mut reading = Reading::begin(heap, config)?;
+        for _ in 0..u64::MAX {
+            if reading.opened.read_on(rt, heap, &mut reading.rows)? {
+                break;
+            }
+        }
+        Ok(reading)
     }
 
     /// Reads on. True: all is read, and as it was. `Changing` says that files changed each time that they were read, any other fault what
@@ -101,15 +132,18 @@ impl<R: AllocGlobal + Files + Clone + Drop> Reading<R> {
         let Reading {
             document,
             opened,
+            seen,
             rows,
             is_read: _,
             looking: _,
             tries: _,
         } = self;
+        let (rows, folders) = rows.end();
         ReadFolders {
             document,
             opened,
-            rows: rows.end(),
+            rows,
+            seen: seen.with_folders(folders),
         }
     }
 }

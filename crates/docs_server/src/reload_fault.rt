@@ -3,6 +3,7 @@
 use crate::listen_fault::ListenFault;
 use doc_page_parts::failure::Memory;
 use doc_page_parts::text::Text;
+use doc_server_files::site_fault::SiteFault;
 use doc_server_streams::fault::Fault;
 use thiserror::Error;
 
@@ -28,6 +29,18 @@ impl From<ListenFault> for ReloadFault {
 
     fn from(fault: ListenFault) -> ReloadFault {
         ReloadFault::Config(fault)
+    }
+}
+
+impl From<SiteFault> for ReloadFault {
+    ghost use Rattle.std.specs.Prelude.{◌≡◌};
+    ghost use Rattle.docs_server.specs.declared.listen_fault.ListenFault.TheVariants as stops;
+    ghost use Rattle.docs_server.specs.declared.reload_fault.ReloadFault.TheVariants as faults;
+
+    ghost from_gives = { λ fault refused. refused ≡ faults.Config (stops.Site fault) };
+
+    fn from(fault: SiteFault) -> ReloadFault {
+        ReloadFault::Config(ListenFault::Site(fault))
     }
 }
 

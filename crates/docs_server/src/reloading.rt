@@ -1,25 +1,30 @@
 //! A configuration, read anew where a line on standard input asks for that.
 
 ghost use Rattle.std.specs.Prelude.{◌≡◌, IfOk, None, OnErr};
-ghost use Rattle.docs_server.specs.Reloading.{IsConfigured};
+ghost use Rattle.doc_server_files.specs.Configured.{IsConfigured};
 
-use crate::bounded::{Bounded, Opened, bounded_of, bounded_with, opened_of, written_of};
 use crate::changed::Changed;
-use crate::files::{Site, read_file};
 use crate::gathered::{Gathered, Made, Pending};
-use crate::gathered_media::are_served;
 use crate::listen_fault::ListenFault;
-use crate::reading::{ReadFolders, Reading};
+use crate::looks::Looks;
+use crate::reading::{OpenedConfig, ReadFolders, Reading};
+use crate::refusals::Refusals;
 use crate::reload_fault::ReloadFault;
 use crate::shared::Shared;
-use crate::told_faults::tell_refusal;
 use crate::told_folders::tell_passed;
-use crate::written::Written;
 use doc_media::media::Media;
 use doc_page_parts::failure::Memory;
 use doc_page_parts::heap::Heap;
 use doc_page_parts::text::Text;
+use doc_server_arguments::command::Listen;
+use doc_server_config::config::SiteConfig;
 use doc_server_config::document::Document;
+use doc_server_files::bounded::{Bounded, bounded_with, opened_of, written_of};
+use doc_server_files::files::{Site, read_file};
+use doc_server_files::gathered_media::are_served;
+use doc_server_files::seen_files::SeenFiles;
+use doc_server_files::told_faults::tell_refusal;
+use doc_server_files::written::Written;
 use doc_server_journal::clock::seconds_of;
 use doc_server_serving::given::Configuration;
 use doc_server_serving::net::reloaded::Reloaded;
@@ -48,11 +53,11 @@ const FOLDERS: &str = "folder";
 
 /// A configuration that is served, and that can be read anew.
 #[derive(Drop)]
-pub struct Reloading<'a, P> {
+pub struct Reloading<'a, P: Files> {
     pub rt: &'a P,
     pub heap: Heap,
     /// The name of its file.
-    name: Text,
+    name: &'a str,
     /// What it is as it is served.
     document: Document,
     /// How many media are served.
@@ -63,30 +68,33 @@ pub struct Reloading<'a, P> {
     pub count: u64,
     /// Where the log finds the names of new readers, and the door what stands.
     shared: &'a Shared,
+    looks: Looks<P>,
+    refusals: Refusals,
 }
 
 impl<'a, P: AllocGlobal + Clock + Clone + Drop + Eprint + Files + Input> Reloading<'a, P> {
-    /// A configuration that is served, the file of this name, beside so many media.
+    /// The configuration that a command names, which is served beside so many media.
     pub fn new(
         rt: &'a P,
-        name: &str,
+        command: &Listen<'a>,
         document: Document,
         media_count: usize,
         shared: &'a Shared,
-    ) -> Result<Reloading<'a, P>, Memory>
-        ensures { IfOk result (λ config. config.count ≡ 0) }
+    ) -> Reloading<'a, P>
+        ensures { result.count ≡ 0 }
     {
-        let heap = rt.alloc();
-        Ok(Reloading {
+        Reloading {
             rt,
-            heap,
-            name: Text::copy_of(heap, name)?,
+            heap: rt.alloc(),
+            name: command.config,
             document,
             media_count,
             given: None,
             count: 0,
             shared,
-        })
+            looks: Looks::new(rt, command.watch),
+            refusals: Refusals::none(),
+        }
     }
 
     /// Whether what has come on standard input asks for a reload. Each other line is told.
@@ -107,6 +115,29 @@ impl<'a, P: AllocGlobal + Clock + Clone + Drop + Eprint + Files + Input> Reloadi
         asks
     }
 
+    /// Whether it is to be looked whether files have changed.
+    pub fn is_looking(&self) -> bool {
+        self.looks.is_due(self.rt)
+    }
+
+    /// Looks whether files have changed, at some of them.
+    pub fn has_changed(&mut self) -> bool
+        ensures count { self.new.count ≡ self.old.count }
+        ensures given { self.new.given ≡ self.old.given }
+    {
+        self.looks.look(self.rt, self.heap)
+    }
+
+    /// A reload begins, and the pause to the next look. Where it is quiet nobody has asked for it: then it isn't told that nothing has
+    /// changed, nor twice why it is refused.
+    pub fn begin_reload(&mut self, is_quiet: bool)
+        ensures count { self.new.count ≡ self.old.count }
+        ensures given { self.new.given ≡ self.old.given }
+    {
+        self.looks.rest(self.rt);
+        self.refusals.begin(is_quiet);
+    }
+
     /// What the file and those that it names give as they are now, all read at once. Where it is refused all stays as it was, and its
     /// faults are told behind a word, where there is one.
     pub fn reload(
@@ -118,58 +149,112 @@ impl<'a, P: AllocGlobal + Clock + Clone + Drop + Eprint + Files + Input> Reloadi
         ensures count { self.new.count ≡ self.old.count }
         ensures refused { OnErr result (self.new.document ≡ self.old.document) }
     {
-        let (document, opened) = self.open(word)?;
-        let bounded = bounded_of(self.rt, self.heap, opened)?;
-        let gathered = self.take(served, document, bounded)?;
+        let config = self.open(word)?;
+        let reading = Reading::all(self.rt, self.heap, config)?;
+        let gathered = self.end(served, reading)?;
         let made = gathered.make(self.heap).map_err(ListenFault::from)?;
         Ok(self.give(made))
     }
 
     /// The document that the file is now, and what it says, read up to its folders. Where it is refused its faults are told behind a word,
     /// where there is one.
-    fn open(&self, word: Option<&str>) -> Result<(Document, Opened), ReloadFault> {
-        let text = read_file(self.rt, self.heap, self.name.get()).map_err(ListenFault::from)?;
+    fn open(&mut self, word: Option<&str>) -> Result<OpenedConfig, ReloadFault>
+        ensures count { self.new.count ≡ self.old.count }
+        ensures given { self.new.given ≡ self.old.given }
+        ensures document { self.new.document ≡ self.old.document }
+    {
+        self.looks.note(self.rt, None);
+        let seen = SeenFiles::of_config(self.rt, self.heap, self.name)?;
+        let text = read_file(self.rt, self.heap, self.name).map_err(ListenFault::from)?;
         match written_of(self.heap, &text) {
-            Ok((document, written)) => self.open_files(document, written),
+            Ok((document, written)) => self.open_files(document, written, seen),
             Err(fault) => {
-                if let Some(word) = word {
-                    tell_refusal(self.rt, self.heap, word, self.name.get(), &text);
-                }
-                Err(ReloadFault::Config(fault))
+                self.looks.note(self.rt, Some(seen));
+                self.tell_faults(word, &text);
+                Err(ReloadFault::from(fault))
             }
         }
     }
 
-    /// A document and what it says, with the files that it names. Where something else than readers and pages has changed it is refused.
+    /// Tells the faults of this text of the configuration behind a word, where there is one.
+    fn tell_faults(&mut self, word: Option<&str>, text: &str)
+        ensures count { self.new.count ≡ self.old.count }
+        ensures given { self.new.given ≡ self.old.given }
+        ensures document { self.new.document ≡ self.old.document }
+    {
+        let Some(word) = word else {
+            return;
+        };
+        if self.refusals.tells_faults(self.heap, text) {
+            tell_refusal(self.rt, self.heap, word, self.name, text);
+        }
+    }
+
+    /// A document and what it says, with the files that it names.
     fn open_files(
-        &self,
+        &mut self,
         document: Document,
         written: Written,
-    ) -> Result<(Document, Opened), ReloadFault> {
-        if let Some(key) = changed_key(self.heap, &self.document.table, &document.table)? {
-            return Err(ReloadFault::Changed(key));
-        }
+        seen: SeenFiles,
+    ) -> Result<OpenedConfig, ReloadFault>
+        ensures count { self.new.count ≡ self.old.count }
+        ensures given { self.new.given ≡ self.old.given }
+        ensures document { self.new.document ≡ self.old.document }
+    {
+        let seen = self.seen_of(&document, &written.config, seen)?;
         let opened = opened_of(self.rt, self.heap, written)?;
-        Ok((document, opened))
+        Ok(OpenedConfig {
+            document,
+            opened,
+            seen,
+        })
+    }
+
+    /// The files as they were seen, with those that a configuration names. Where something else than readers and pages has changed in its
+    /// document it is refused.
+    fn seen_of(
+        &mut self,
+        document: &Document,
+        config: &SiteConfig,
+        seen: SeenFiles,
+    ) -> Result<SeenFiles, ReloadFault>
+        ensures count { self.new.count ≡ self.old.count }
+        ensures given { self.new.given ≡ self.old.given }
+        ensures document { self.new.document ≡ self.old.document }
+    {
+        match changed_key(self.heap, &self.document.table, &document.table)? {
+            None => Ok(seen.with_named(self.rt, self.heap, config)?),
+            Some(key) => {
+                self.looks.note(self.rt, Some(seen));
+                Err(ReloadFault::Changed(key))
+            }
+        }
     }
 
     /// Begins to read the file and those that it names, some at a time. Where it is refused its faults are told.
-    pub fn begin(&self) -> Result<Reading<P>, ReloadFault> {
-        let (document, opened) = self.open(Some(REFUSED))?;
-        Ok(Reading::begin(self.heap, document, opened)?)
+    pub fn begin(&mut self) -> Result<Reading<P>, ReloadFault>
+        ensures count { self.new.count ≡ self.old.count }
+    {
+        let config = self.open(Some(REFUSED))?;
+        Ok(Reading::begin(self.heap, config)?)
     }
 
     /// What a document and the files that it names give, which are read.
     pub fn end(
-        &self,
+        &mut self,
         served: &Option<Media>,
         reading: Reading<P>,
-    ) -> Result<Gathered, ReloadFault> {
+    ) -> Result<Gathered, ReloadFault>
+        ensures count { self.new.count ≡ self.old.count }
+        ensures document { self.new.document ≡ self.old.document }
+    {
         let ReadFolders {
             document,
             opened,
             rows,
+            seen,
         } = reading.end();
+        self.looks.note(self.rt, Some(seen));
         let bounded = bounded_with(self.heap, opened, rows)?;
         self.take(served, document, bounded)
     }
@@ -239,11 +324,18 @@ impl<'a, P: AllocGlobal + Clock + Clone + Drop + Eprint + Files + Input> Reloadi
             records: _,
         } = reloaded;
         if !changed.is_any() && put == 0 && removed == 0 {
-            let _ = eprintln!(self.rt; "reload: nothing has changed");
+            self.tell_nothing();
             return;
         }
         self.shared.tell_reload(seconds_of(self.rt));
         self.tell_made("reload", changed, reloaded);
+    }
+
+    /// Tells that a reload has changed nothing, where somebody asked for it.
+    fn tell_nothing(&self) {
+        if self.refusals.is_asked() {
+            let _ = eprintln!(self.rt; "reload: nothing has changed");
+        }
     }
 
     /// Tells what stands by a reload, or by what this word says.
@@ -266,8 +358,10 @@ impl<'a, P: AllocGlobal + Clock + Clone + Drop + Eprint + Files + Input> Reloadi
         ensures given { self.new.given ≡ None }
     {
         self.given = None;
-        self.shared.tell_refusal();
-        let _ = eprintln!(self.rt; "{REFUSED}: {fault}");
+        if self.refusals.tells(self.heap, fault) {
+            self.shared.tell_refusal();
+            let _ = eprintln!(self.rt; "{REFUSED}: {fault}");
+        }
     }
 
     /// What was given isn't served.
@@ -295,6 +389,7 @@ impl<'a, P: AllocGlobal + Clock + Clone + Drop + Eprint + Files + Input> Reloadi
             return Changed::NOTHING;
         };
         let readers = !has_same_readers(&self.document.table, &document.table);
+        self.refusals.forget();
         self.document = document;
         self.media_count = media_count;
         self.shared.names.set(Some(names));

@@ -12,6 +12,7 @@ use doc_server_serving::net::follow_fault::FollowFault;
 use doc_server_serving::net::reload_fault::Refusal;
 use doc_server_serving::net::reloaded::Reloaded;
 use doc_server_serving::source::Source;
+use std::fmt::Display;
 use std::rt::{Clock, Files};
 
 /// A configuration that is served, and how far it is read anew, where it is.
@@ -57,7 +58,7 @@ impl<P: AllocGlobal + Clock + Clone + Drop + Eprint + Files + Input> Source
     }
 
     fn is_busy(&self) -> bool {
-        self.stage.is_some()
+        self.stage.is_some() || self.config.is_looking()
     }
 
     fn hear(
@@ -65,9 +66,7 @@ impl<P: AllocGlobal + Clock + Clone + Drop + Eprint + Files + Input> Source
         media: &Option<Media>,
         has_input: bool,
     ) -> Result<Option<Given>, FollowFault> {
-        let stage = self.stage.take();
-        let (next, given) = step(&mut self.config, stage, has_input, media);
-        self.stage = next;
+        let given = self.step(media, has_input);
         Ok(given)
     }
 
@@ -83,128 +82,107 @@ impl<P: AllocGlobal + Clock + Clone + Drop + Eprint + Files + Input> Source
     }
 }
 
-/// Begins, where something on standard input asks for it, or goes on from a stage: to which one, and what is given.
-fn step<P: AllocGlobal + Clock + Clone + Drop + Eprint + Files + Input>(
-    config: &mut Reloading<'_, P>,
-    stage: Option<Stage<P>>,
-    has_input: bool,
-    served: &Option<Media>,
-) -> (Option<Stage<P>>, Option<Given>)
-    ensures answers { HasAnswered config.new.count result.1 }
-    ensures count { config.old.count ≤ config.new.count }
-{
-    match heard(config, stage, has_input) {
-        Some(stage) => go_on(config, stage, served),
-        None => (None, None),
+impl<P: AllocGlobal + Clock + Clone + Drop + Eprint + Files + Input> ReloadingInSteps<'_, P> {
+    /// Begins, where something on standard input asks for it or files have changed, and goes on: what is given.
+    fn step(&mut self, media: &Option<Media>, has_input: bool) -> Option<Given>
+        ensures answers { HasAnswered self.new.config.count result }
+        ensures count { self.old.config.count ≤ self.new.config.count }
+    {
+        if has_input && self.config.is_asked() {
+            self.begin(false);
+        } else if self.stage.is_none() && self.config.is_looking() && self.config.has_changed() {
+            self.begin(true);
+        }
+        self.go_on(media)
     }
-}
 
-/// The stage to go on from: another one than this where something on standard input asks for that.
-fn heard<P: AllocGlobal + Clock + Clone + Drop + Eprint + Files + Input>(
-    config: &mut Reloading<'_, P>,
-    stage: Option<Stage<P>>,
-    has_input: bool,
-) -> Option<Stage<P>>
-    ensures count { config.new.count ≡ config.old.count }
-{
-    if has_input && config.is_asked() {
-        return begin(config);
-    }
-    stage
-}
-
-/// Begins to read a configuration anew. Where it is refused that is told.
-fn begin<P: AllocGlobal + Clock + Clone + Drop + Eprint + Files + Input>(
-    config: &mut Reloading<'_, P>,
-) -> Option<Stage<P>>
-    ensures count { config.new.count ≡ config.old.count }
-{
-    match config.begin() {
-        Ok(reading) => Some(Stage::Reading(reading)),
-        Err(fault) => {
-            config.refuse(&fault);
-            None
+    /// Begins to read the configuration anew. Where it is refused that is told. It is quiet where nobody has asked for it.
+    fn begin(&mut self, is_quiet: bool)
+        ensures count { self.new.config.count ≡ self.old.config.count }
+    {
+        self.config.begin_reload(is_quiet);
+        match self.config.begin() {
+            Ok(reading) => self.stand_at(Some(Stage::Reading(reading))),
+            Err(fault) => self.refuse(&fault),
         }
     }
-}
 
-/// Goes on from a stage: to which one, where it isn't the last, and what is given. Where anything is refused that is told.
-fn go_on<P: AllocGlobal + Clock + Clone + Drop + Eprint + Files + Input>(
-    config: &mut Reloading<'_, P>,
-    stage: Stage<P>,
-    served: &Option<Media>,
-) -> (Option<Stage<P>>, Option<Given>)
-    ensures answers { HasAnswered config.new.count result.1 }
-    ensures count { config.old.count ≤ config.new.count }
-{
-    match stage {
-        Stage::Reading(reading) => (read_on(config, reading, served), None),
-        Stage::Gathered(gathered) => (make(config, gathered), None),
-        Stage::Made(made) => (None, Some(give(config, made))),
+    /// It stands at this stage, or isn't read anew.
+    fn stand_at(&mut self, stage: Option<Stage<P>>)
+        ensures config { self.new.config ≡ self.old.config }
+    {
+        self.stage = stage;
     }
-}
 
-/// Reads on, and gathers what was read once it is all.
-fn read_on<P: AllocGlobal + Clock + Clone + Drop + Eprint + Files + Input>(
-    config: &mut Reloading<'_, P>,
-    reading: Reading<P>,
-    served: &Option<Media>,
-) -> Option<Stage<P>>
-    ensures count { config.new.count ≡ config.old.count }
-{
-    let mut reading = reading;
-    match reading.part(config.rt, config.heap) {
-        Ok(false) => Some(Stage::Reading(reading)),
-        Ok(true) => gather(config, reading, served),
-        Err(fault) => {
-            config.refuse(&fault);
-            None
+    /// It isn't read anew any more: that is told.
+    fn refuse<F: Display>(&mut self, fault: &F)
+        ensures count { self.new.config.count ≡ self.old.config.count }
+    {
+        self.stand_at(None);
+        self.config.refuse(fault);
+    }
+
+    /// Goes on from a stage: what is given. Where anything is refused that is told.
+    fn go_on(&mut self, media: &Option<Media>) -> Option<Given>
+        ensures answers { HasAnswered self.new.config.count result }
+        ensures count { self.old.config.count ≤ self.new.config.count }
+    {
+        match self.stage.take() {
+            None => None,
+            Some(Stage::Reading(reading)) => {
+                self.read_on(reading, media);
+                None
+            }
+            Some(Stage::Gathered(gathered)) => {
+                self.make(gathered);
+                None
+            }
+            Some(Stage::Made(made)) => Some(self.give(made)),
         }
     }
-}
 
-/// Gathers what was read.
-fn gather<P: AllocGlobal + Clock + Clone + Drop + Eprint + Files + Input>(
-    config: &mut Reloading<'_, P>,
-    reading: Reading<P>,
-    served: &Option<Media>,
-) -> Option<Stage<P>>
-    ensures count { config.new.count ≡ config.old.count }
-{
-    match config.end(served, reading) {
-        Ok(gathered) => Some(Stage::Gathered(gathered)),
-        Err(fault) => {
-            config.refuse(&fault);
-            None
+    /// Reads on, and gathers what was read once it is all.
+    fn read_on(&mut self, reading: Reading<P>, media: &Option<Media>)
+        ensures count { self.new.config.count ≡ self.old.config.count }
+    {
+        let mut reading = reading;
+        match reading.part(self.config.rt, self.config.heap) {
+            Ok(false) => self.stand_at(Some(Stage::Reading(reading))),
+            Ok(true) => self.gather(reading, media),
+            Err(fault) => {
+                self.stand_at(Some(Stage::Reading(reading)));
+                self.refuse(&fault);
+            }
         }
     }
-}
 
-/// Puts the pages that were gathered into a store.
-fn make<P: AllocGlobal + Clock + Clone + Drop + Eprint + Files + Input>(
-    config: &mut Reloading<'_, P>,
-    gathered: Gathered,
-) -> Option<Stage<P>>
-    ensures count { config.new.count ≡ config.old.count }
-{
-    match gathered.make(config.heap) {
-        Ok(made) => Some(Stage::Made(made)),
-        Err(fault) => {
-            config.refuse(&fault);
-            None
+    /// Gathers what was read.
+    fn gather(&mut self, reading: Reading<P>, media: &Option<Media>)
+        ensures count { self.new.config.count ≡ self.old.config.count }
+    {
+        match self.config.end(media, reading) {
+            Ok(gathered) => self.stand_at(Some(Stage::Gathered(gathered))),
+            Err(fault) => self.refuse(&fault),
         }
     }
-}
 
-/// What is given.
-fn give<P: AllocGlobal + Clock + Clone + Drop + Eprint + Files + Input>(
-    config: &mut Reloading<'_, P>,
-    made: Made,
-) -> Given
-    ensures answers { HasAnswered config.new.count (Some result) }
-    ensures count { config.old.count ≤ config.new.count }
-{
-    let configuration = config.give(made);
-    config.count = config.count.saturating_add(1);
-    Given::Configuration(configuration)
+    /// Puts the pages that were gathered into a store.
+    fn make(&mut self, gathered: Gathered)
+        ensures count { self.new.config.count ≡ self.old.config.count }
+    {
+        match gathered.make(self.config.heap) {
+            Ok(made) => self.stand_at(Some(Stage::Made(made))),
+            Err(fault) => self.refuse(&fault),
+        }
+    }
+
+    /// What is given.
+    fn give(&mut self, made: Made) -> Given
+        ensures answers { HasAnswered self.new.config.count (Some result) }
+        ensures count { self.old.config.count ≤ self.new.config.count }
+    {
+        let configuration = self.config.give(made);
+        self.config.count = self.config.count.saturating_add(1);
+        Given::Configuration(configuration)
+    }
 }

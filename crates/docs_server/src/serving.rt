@@ -3,11 +3,11 @@
 ghost use Rattle.std.specs.Prelude.{◌≡◌, ◌<◌};
 ghost use Rattle.docs_server.specs.Serving.{fault_of};
 
-use crate::files::{Pages, Site, read_site};
 use doc_html::CommonMark;
 use doc_page::renderer::Renderer;
 use doc_server::site::site_hub;
 use doc_server_arguments::command::Serve;
+use doc_server_files::files::{Pages, Site, read_site};
 use doc_server_rounds::fault::ServeFault;
 use doc_server_rounds::serving::serve_on;
 use doc_server_streams::fault::Fault;

@@ -2,12 +2,12 @@
 
 ghost use Rattle.std.specs.Prelude.{◌≡◌, ◌<◌};
 
-use crate::files::{Pages, Site, read_site};
 use doc_html::CommonMark;
 use doc_page::renderer::Renderer;
 use doc_server::check::check;
 use doc_server::replay::replay;
 use doc_server_arguments::command::{Check, Replay};
+use doc_server_files::files::{Pages, Site, read_site};
 use doc_server_streams::fault::Fault;
 use doc_server_streams::read_from::ReadFrom;
 use doc_server_streams::write_to::WriteTo;

@@ -1,11 +1,11 @@
 //! The command `folders`: which files of a configuration's folders are bad.
 
-use crate::bounded::read_all_folders;
-use crate::folder_rows::FolderRows;
 use crate::listen_fault::ListenFault;
 use crate::status::status_of;
 use doc_page_parts::heap::Heap;
 use doc_server_config::bad_file::BadFile;
+use doc_server_files::bounded::read_all_folders;
+use doc_server_files::folder_rows::FolderRows;
 use doc_server_streams::fault::Fault;
 use doc_server_streams::output::Output;
 use doc_server_streams::whole_output::{flush, send};

@@ -45,17 +45,28 @@ fn add<P: Clock + Files<File = File>>(
     number: usize,
     bytes: &[u8],
 ) -> Result<(), FileFault> {
-    let mut name = String::from_str(torn.heap, torn.name)?;
-    name.push_str(TORN)?;
     let seconds = seconds_of(torn.rt);
     let len = bytes.len();
     let line = format!(in torn.heap; "{seconds} record {number}, {len} bytes\n")?;
-    let mut file = OpenOptions::new()
+    let mut file = open(torn)?;
+    write(&mut file, line.as_bytes(), bytes)
+}
+
+/// The file, which is made where it isn't there.
+fn open<P: Files<File = File>>(torn: &TornFile<'_, P>) -> Result<File, FileFault> {
+    let mut name = String::from_str(torn.heap, torn.name)?;
+    name.push_str(TORN)?;
+    let file = OpenOptions::new()
         .append(true)
         .create(true)
         .mode(OWNER_ALONE)
         .open(torn.rt, name.as_str())?;
-    file.write_all(line.as_bytes())?;
+    Ok(file)
+}
+
+/// Writes a line, and the bytes behind it, onto the disk.
+fn write(file: &mut File, line: &[u8], bytes: &[u8]) -> Result<(), FileFault> {
+    file.write_all(line)?;
     file.write_all(bytes)?;
     file.write_all(b"\n")?;
     file.sync_all()?;

@@ -4,7 +4,7 @@ use Rattle.doc_hub.specs.Worlds.{store_of}
 use Rattle.doc_server.specs.Sites.{site_world_taking}
 use Rattle.doc_server_config.specs.declared.readme.Move.{Move}
 use Rattle.doc_server_restore.specs.Restores.{all_made}
-use Rattle.docs_server.specs.Moving.{edits_of_moves}
+use Rattle.doc_server_files.specs.Moving.{edits_of_moves}
 use Rattle.docs_server.proofs.listening.hub_of.Goals as goal
 
 pub returns-clause-ready : goal.returns-clause-ready

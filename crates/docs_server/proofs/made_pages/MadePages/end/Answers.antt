@@ -1,4 +1,4 @@
-use Rattle.docs_server.proofs.StoreSteps.{as_configured}
+use Rattle.docs_server.proofs.ConfiguredSteps.{as_configured}
 use Rattle.docs_server.proofs.made_pages.MadePages.end.Goals as goal
 
 pub returns-clause-configured : goal.returns-clause-configured

@@ -1,0 +1,2 @@
+mod StoreSteps
+mod ToldSteps
