@@ -77,9 +77,10 @@ const INPUT: &str = "/proc/self/fd/0";
 
 /// Runs `listen` over pages of CommonMark, and answers the status to end with.
 pub fn run_listen<
+    'a,
     L: Ledger,
     P: AllocGlobal + Clock + Clone + Drop + Eprint + Files<File = File> + Input + Net + Print,
->(rt: &P, blank: Blank, command: &Listen<'_>) -> u8
+>(rt: &'a P, blank: Blank, command: &Listen<'a>) -> u8
     requires name { blank.name ≡ L.name }
     requires parts { blank.parts ≡ L.parts }
     requires some { 0 < L.parts }
@@ -89,9 +90,10 @@ pub fn run_listen<
 
 /// The same as a result.
 fn listen_configured<
+    'a,
     L: Ledger,
     P: AllocGlobal + Clock + Clone + Drop + Eprint + Files<File = File> + Input + Net + Print,
->(rt: &P, blank: Blank, command: &Listen<'_>) -> Result<u8, ListenFault>
+>(rt: &'a P, blank: Blank, command: &Listen<'a>) -> Result<u8, ListenFault>
     requires name { blank.name ≡ L.name }
     requires parts { blank.parts ≡ L.parts }
     requires some { 0 < L.parts }
@@ -102,12 +104,13 @@ fn listen_configured<
 
 /// The same of a configuration that is read.
 fn listen_bounded<
+    'a,
     L: Ledger,
     P: AllocGlobal + Clock + Clone + Drop + Eprint + Files<File = File> + Input + Net + Print,
 >(
-    rt: &P,
+    rt: &'a P,
     blank: Blank,
-    command: &Listen<'_>,
+    command: &Listen<'a>,
     document: Document,
     bounded: Bounded,
 ) -> Result<u8, ListenFault>
@@ -130,7 +133,14 @@ fn listen_bounded<
     let login = takes_logins(&pages.config);
     let form = lines_of(command.log, Askers { names, login });
     let media_count = media_paths.get().len();
-    let config = Reloading::new(rt, command, document, media_count, &shared);
+    let config = Reloading::new(
+        rt,
+        command.config,
+        command.watch,
+        document,
+        media_count,
+        &shared,
+    );
     let front = pages.config.markdown.front;
     let renderer: CommonMark<L> = CommonMark::with_front(entities, blank, front);
     let ready = Ready {

@@ -93,7 +93,7 @@ where
 }
 
 /// Runs a command, and answers the status to end with.
-fn run_command<R>(rt: &R, command: Command<'_>) -> Result<u8, Fault>
+fn run_command<'a, R>(rt: &'a R, command: Command<'a>) -> Result<u8, Fault>
 where
     R: AllocGlobal
         + Clock

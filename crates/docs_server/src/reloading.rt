@@ -16,7 +16,6 @@ use doc_media::media::Media;
 use doc_page_parts::failure::Memory;
 use doc_page_parts::heap::Heap;
 use doc_page_parts::text::Text;
-use doc_server_arguments::command::Listen;
 use doc_server_config::config::SiteConfig;
 use doc_server_config::document::Document;
 use doc_server_files::bounded::{Bounded, bounded_with, opened_of, written_of};
@@ -73,10 +72,12 @@ pub struct Reloading<'a, P: Files> {
 }
 
 impl<'a, P: AllocGlobal + Clock + Clone + Drop + Eprint + Files + Input> Reloading<'a, P> {
-    /// The configuration that a command names, which is served beside so many media.
+    /// A configuration that is served, the file of this name, beside so many media. After so many seconds each it is looked whether files
+    /// have changed, where there are any.
     pub fn new(
         rt: &'a P,
-        command: &Listen<'a>,
+        name: &'a str,
+        watch: Option<u32>,
         document: Document,
         media_count: usize,
         shared: &'a Shared,
@@ -86,13 +87,13 @@ impl<'a, P: AllocGlobal + Clock + Clone + Drop + Eprint + Files + Input> Reloadi
         Reloading {
             rt,
             heap: rt.alloc(),
-            name: command.config,
+            name,
             document,
             media_count,
             given: None,
             count: 0,
             shared,
-            looks: Looks::new(rt, command.watch),
+            looks: Looks::new(rt, watch),
             refusals: Refusals::none(),
         }
     }
