@@ -11,5 +11,5 @@ returns-in-Ok-clause-given g c = record {
   configured = c.in_ok-given.ensures.given;
   taken = c.in_ok-journal.ensures;
   made = subst (λ (texts : List (List ℕ)). restored c.in_ok-given.given.media (unstamped c.in_ok-given.given.pages) texts
-      ≡ Ok (unstamped c.in-Ok.pages)) c.get-2.ensures c.in-Ok.ensures.restored;
+      ≡ Ok (unstamped c.in-Ok.pages)) c.get.ensures c.in-Ok.ensures.restored;
 }
