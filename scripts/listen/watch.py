@@ -82,6 +82,24 @@ def changes():
     scene.check("the end", server.end() == 0)
 
 
+def links():
+    """A folder that is named by a link, which is switched."""
+    for release in ("one", "two"):
+        put(f"releases/{release}/p.md", f"Release {release}\n")
+    os.symlink("releases/one", "current")
+    put("link.toml", READERS + '[[folder]]\npath = "current"\nprefix = "docs"\n')
+    server = scene.listen("link.toml", options=("--watch", "1"))
+    comes(server, "the first release", "docs/p.md", "Release one")
+    time.sleep(3)
+    for release in ("two", "one"):
+        os.symlink(f"releases/{release}", "next")
+        os.replace("next", "current")
+        comes(server, f"release {release}", "docs/p.md", f"Release {release}")
+    put("releases/one/p.md", "Release one, mended\n")
+    comes(server, "a page behind the link", "docs/p.md", "mended")
+    scene.check("the end", server.end() == 0 and server.said().count("\n") == 3, server.said())
+
+
 def refusals():
     """What isn't served is told once, and all stays; what mends it is served."""
     server = begin()
@@ -203,6 +221,7 @@ def many():
 
 def main():
     changes()
+    links()
     refusals()
     options()
     follower()

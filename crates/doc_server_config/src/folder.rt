@@ -66,7 +66,6 @@ impl fmt::Display for FolderFault {
 }
 
 /// A folder whose files are pages.
-#[derive(Drop)]
 pub struct Folder {
     /// The name of the folder, as it is to be opened.
     pub file: Text,
@@ -79,6 +78,20 @@ pub struct Folder {
     /// The extensions of the files that are media, in lower case, where there are media.
     pub media: Option<List<Text>>,
     pub rules: FolderRules,
+}
+
+/// Written out, so that it is proved here once: what a derived drop does is proved wherever a value is let go.
+impl Drop for Folder {
+    fn drop(self) {
+        let Folder {
+            file: _,
+            prefix: _,
+            groups: _,
+            except: _,
+            media: _,
+            rules: _,
+        } = self;
+    }
 }
 
 /// The folders of tables, or the first table that is none, counted from 1.

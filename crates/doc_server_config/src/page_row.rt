@@ -26,12 +26,22 @@ pub enum Source {
 }
 
 /// A page of a configuration.
-#[derive(Drop)]
 pub struct PageRow {
     pub path: Path,
     /// The groups whose readers see the page.
     pub groups: Groups,
     pub source: Source,
+}
+
+/// Written out, so that it is proved here once: what a derived drop does is proved wherever a value is let go.
+impl Drop for PageRow {
+    fn drop(self) {
+        let PageRow {
+            path: _,
+            groups: _,
+            source: _,
+        } = self;
+    }
 }
 
 /// The pages of tables, or the first table that is none, counted from 1.

@@ -29,11 +29,17 @@ pub enum Look {
 }
 
 /// A look at folders that were read, a part at a time.
-#[derive(Drop)]
 pub struct Looking<R: Files> {
     /// How many of them were looked at, and the walk through the next.
     count: usize,
     walk: Option<Walk<R>>,
+}
+
+/// Written out, so that it is proved here once: what a derived drop does is proved wherever a value is let go.
+impl<R: Files + Drop> Drop for Looking<R> {
+    fn drop(self) {
+        let Looking { count: _, walk: _ } = self;
+    }
 }
 
 impl<R: AllocGlobal + Files + Clone + Drop> Looking<R> {

@@ -50,13 +50,23 @@ impl Names<'_> {
 }
 
 /// A folder that is read a part at a time, all from the folder that its name led to as that began.
-#[derive(Drop)]
 pub struct ResolvedReading<R: Files> {
     /// Its name as it is written.
     written: Text,
     /// The folder that the name led to.
     folder: Folder,
     reading: FolderReading<R>,
+}
+
+/// Written out, so that it is proved here once: what a derived drop does is proved wherever a value is let go.
+impl<R: Files + Drop> Drop for ResolvedReading<R> {
+    fn drop(self) {
+        let ResolvedReading {
+            written: _,
+            folder: _,
+            reading: _,
+        } = self;
+    }
 }
 
 /// A folder that was read.

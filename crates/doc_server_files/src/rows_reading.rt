@@ -13,7 +13,6 @@ use doc_server_config::taken::Taken;
 use std::rt::Files;
 
 /// The folders of a configuration, read a part at a time.
-#[derive(Drop)]
 pub struct RowsReading<R: Files> {
     taken: Taken,
     /// Whether bad files are passed over in each folder.
@@ -23,6 +22,19 @@ pub struct RowsReading<R: Files> {
     looked: Vec<Looked>,
     /// The folder that is read.
     reading: Option<ResolvedReading<R>>,
+}
+
+/// Written out, so that it is proved here once: what a derived drop does is proved wherever a value is let go.
+impl<R: Files + Drop> Drop for RowsReading<R> {
+    fn drop(self) {
+        let RowsReading {
+            taken: _,
+            all: _,
+            found: _,
+            looked: _,
+            reading: _,
+        } = self;
+    }
 }
 
 impl<R: AllocGlobal + Files + Clone + Drop> RowsReading<R> {

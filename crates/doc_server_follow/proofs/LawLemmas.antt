@@ -6,7 +6,7 @@ use Rattle.doc_server_journal_records.specs.Readings.{AreRecords, HasNoOpenRecor
 use Rattle.doc_server_journal_records.proofs.ChainLemmas.{end_not_open}
 use Rattle.doc_server_journal_records.proofs.LawLemmas.{one_reading}
 use Rattle.doc_server_journal_records.proofs.RecordLemmas.{parts}
-use Rattle.doc_server_follow.specs.Follows.{IsAt, IsMarked, mark_of}
+use Rattle.doc_server_follow.specs.Follows.{AreTaken, IsAt, IsMarked, mark_of}
 use Rattle.doc_server_follow.specs.Laws.{GrownNeverGoesBack, RestsAtTheEnd, StaysInOrder}
 use Rattle.doc_server_follow.specs.declared.followed.Followed.{Followed}
 use Rattle.doc_server_follow.proofs.MarkLemmas.{foot_mark, header_mark}
@@ -41,12 +41,34 @@ same_rest file identity entries behind rest followed at reads stands =
     (parts (front_of identity entries) (stands.before ++ mark_of followed) behind rest (sym at.end ∙ sym stands.end)
     (sym reads.split ∙ stands.split ∙ sym (append_assoc stands.before (mark_of followed) rest))).1
 
+-- where a journal was taken as far as these entries, it is behind more of them taken as far as all
+pub at_both : (identity : List ℕ) (entries more : List Entry) (old new : Followed) (texts : List (List ℕ)) → IsAt identity entries old
+    → AreTaken old new more texts → IsAt identity (entries ++ more) new
+at_both identity entries more old new texts at taken =
+    let front = front_of identity entries in
+    let next : chain old.digest more ≡ chain (last_digest (seed identity) entries) more = ap (λ d. chain d more) at.digest in
+    let fronts = both_fronts identity entries more in record {
+      is_identity = at.is_identity;
+      are_entries = both_entries entries more at.are_entries taken.are_entries;
+      header = ap (λ (f : Followed). f.header) taken.new_is ∙ at.header;
+      end = omega (
+        arith,
+        ap (λ (f : Followed). f.end) taken.new_is,
+        at.end,
+        ap (λ (l : List ℕ). length l) fronts,
+        length-append front (chain (last_digest (seed identity) entries) more),
+        ap (λ (l : List ℕ). length l) next,
+      );
+      digest = ap (λ (f : Followed). f.digest) taken.new_is ∙ ap (λ d. last_digest d more) at.digest
+          ∙ sym (both_digests (seed identity) entries more);
+      records = omega (arith, ap (λ (f : Followed). f.records) taken.new_is, at.records, length-append entries more);
+    }
+
 pub stays_in_order : StaysInOrder
 stays_in_order file identity entries behind old new texts at reads (more, rest, taken, stands) =
     let front = front_of identity entries in
     let both = same_rest file identity entries behind (chain old.digest more ++ rest) old at reads stands in
-    let next : chain old.digest more ≡ chain (last_digest (seed identity) entries) more = ap (λ d. chain d more) at.digest in
-    let fronts = both_fronts identity entries more in (
+    let next : chain old.digest more ≡ chain (last_digest (seed identity) entries) more = ap (λ d. chain d more) at.digest in (
       more,
       rest,
       taken.texts_are,
@@ -55,24 +77,9 @@ stays_in_order file identity entries behind old new texts at reads (more, rest, 
         are_entries = both_entries entries more reads.are_entries taken.are_entries;
         split = reads.split ∙ ap (λ l. front ++ l) (both ∙ ap (λ l. l ++ rest) next)
             ∙ sym (append_assoc front (chain (last_digest (seed identity) entries) more) rest)
-            ∙ ap (λ l. l ++ rest) (sym fronts);
+            ∙ ap (λ l. l ++ rest) (sym (both_fronts identity entries more));
       },
-      record {
-        is_identity = at.is_identity;
-        are_entries = both_entries entries more at.are_entries taken.are_entries;
-        header = ap (λ (f : Followed). f.header) taken.new_is ∙ at.header;
-        end = omega (
-          arith,
-          ap (λ (f : Followed). f.end) taken.new_is,
-          at.end,
-          ap (λ (l : List ℕ). length l) fronts,
-          length-append front (chain (last_digest (seed identity) entries) more),
-          ap (λ (l : List ℕ). length l) next,
-        );
-        digest = ap (λ (f : Followed). f.digest) taken.new_is ∙ ap (λ d. last_digest d more) at.digest
-            ∙ sym (both_digests (seed identity) entries more);
-        records = omega (arith, ap (λ (f : Followed). f.records) taken.new_is, at.records, length-append entries more);
-      },
+      at_both identity entries more old new texts at taken,
     )
 
 -- ---- the mark at the end of records

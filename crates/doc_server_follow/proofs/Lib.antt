@@ -1,5 +1,5 @@
 mod BegunLemmas
-mod LawLemmas
+pub mod LawLemmas
 mod LookLemmas
 mod MarkLemmas
 mod PieceLemmas

@@ -73,12 +73,23 @@ const ALIAS_LIMIT: usize = 10_000;
 /// The pages of a site with their aliases. A move leaves the old path as an alias of the page; no
 /// alias is the path of a page, and each leads to one. It keeps the heap that it was made with.
 /// Contracts see the site, the stamps of the pages, and how many puts and moves were accepted.
-#[derive(Drop)]
 pub struct Store {
     heap: Heap,
     pages: CountedPages,
     aliases: Aliases,
     puts: u64,
+}
+
+/// Written out, so that it is proved here once: what a derived drop does is proved wherever a value is let go.
+impl Drop for Store {
+    fn drop(self) {
+        let Store {
+            heap: _,
+            pages: _,
+            aliases: _,
+            puts: _,
+        } = self;
+    }
 }
 
 impl Model for Store {

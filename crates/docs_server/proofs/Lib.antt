@@ -1,2 +1,4 @@
-mod AnswerSteps
+mod CatchingSteps
 mod ConfiguredSteps
+mod RestoredSteps
+mod TakenSteps

@@ -9,14 +9,22 @@ use Rattle.doc_server_serving.specs.declared.given.Given.TheVariants as givens
 use Rattle.docs_server.specs.Followed.{AreAllTaken}
 use Rattle.doc_server_files.specs.Configured.{IsConfigured}
 
--- the pages of some configuration, with the edits of all records of some journal on them, made beside these media
-pub record IsConfiguredBehind (media : Media) (pages : StoreState) : Type 0 where
+-- the pages of some configuration, with the edits of all records on them that some journal was taken to, made beside these media
+pub record IsConfiguredTo (followed : Followed) (media : Media) (pages : StoreState) : Type 0 where
   pub config : StoreState
-  pub followed : Followed
   pub texts : List (List ℕ)
   pub configured : IsConfigured config
   pub taken : AreAllTaken followed texts
   pub made : restored media (unstamped config) texts ≡ Ok (unstamped pages)
+
+-- the same of pages that aren't there where one of these edits was refused
+abbrev pub AreConfiguredTo : Followed → Media → Option StoreState → Type 0
+AreConfiguredTo followed media None = ⊤
+AreConfiguredTo followed media (Some pages) = IsConfiguredTo followed media pages
+
+-- the pages of some configuration, with the edits of all records of some journal on them, made beside these media
+abbrev pub IsConfiguredBehind : Media → StoreState → Type 0
+IsConfiguredBehind media pages = (followed : Followed) × IsConfiguredTo followed media pages
 
 -- What somebody who follows another server, and has given something so often, has answered: where nothing was given yet, nothing; and of
 -- each configuration the pages are those of one, behind the edits of a journal.

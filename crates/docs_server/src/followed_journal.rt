@@ -14,6 +14,7 @@ use doc_server_follow::growing::Growing;
 use doc_server_follow::growing_fault::GrowingFault;
 use doc_server_follow::looked::Looked;
 use doc_server_journal::fault::OpenFault;
+use doc_server_restore::fault::RestoreFault;
 use doc_server_streams::fault::Fault;
 use doc_server_streams::whole_input::cannot_read;
 use std::fs::File;
@@ -25,10 +26,19 @@ const LOOKS: u32 = 64;
 const MOST_BYTES: usize = 1_048_576;
 
 /// The file of a journal, and how far it was taken.
-#[derive(Drop)]
 pub struct FollowedJournal {
     pub file: GrowingFile,
     pub followed: Followed,
+}
+
+/// Written out, so that it is proved here once: what a derived drop does is proved wherever a value is let go.
+impl Drop for FollowedJournal {
+    fn drop(self) {
+        let FollowedJournal {
+            file: _,
+            followed: _,
+        } = self;
+    }
 }
 
 impl FollowedJournal {
@@ -97,11 +107,46 @@ fn take_once<R: Files<File = File>>(
 ) -> Result<(FollowedJournal, List<Bytes>), ListenFault>
     ensures { IfOk result (λ taken. AreAllTaken taken.0.followed taken.1) }
 {
-    let file = match GrowingFile::open(rt, name) {
-        Ok(file) => file,
-        Err(fault) => return Err(unread(heap, name, fault)),
-    };
-    let bytes = match file.whole(heap) {
+    let file = opened(rt, heap, name)?;
+    let bytes = file.whole(heap);
+    taken_of(heap, name, file, bytes)
+}
+
+/// Opens the journal of this name, and takes no record of it yet.
+pub fn begin_journal<R: Files<File = File>>(
+    rt: &R,
+    heap: Heap,
+    name: &str,
+) -> Result<(FollowedJournal, List<Bytes>), ListenFault>
+    ensures { IfOk result (λ taken. AreAllTaken taken.0.followed taken.1) }
+{
+    let file = opened(rt, heap, name)?;
+    let bytes = file.front(heap);
+    taken_of(heap, name, file, bytes)
+}
+
+/// The file of this name, opened.
+fn opened<R: Files<File = File>>(
+    rt: &R,
+    heap: Heap,
+    name: &str,
+) -> Result<GrowingFile, ListenFault> {
+    match GrowingFile::open(rt, name) {
+        Ok(file) => Ok(file),
+        Err(fault) => Err(unread(heap, name, fault)),
+    }
+}
+
+/// A journal in a file of this name, of which these bytes are taken.
+fn taken_of(
+    heap: Heap,
+    name: &str,
+    file: GrowingFile,
+    bytes: Result<Bytes, GrowingFault>,
+) -> Result<(FollowedJournal, List<Bytes>), ListenFault>
+    ensures { IfOk result (λ taken. AreAllTaken taken.0.followed taken.1) }
+{
+    let bytes = match bytes {
         Ok(bytes) => bytes,
         Err(fault) => return Err(unread(heap, name, fault)),
     };
@@ -114,5 +159,16 @@ pub fn unread(heap: Heap, name: &str, fault: GrowingFault) -> ListenFault {
     match fault {
         GrowingFault::Failed => ListenFault::Command(cannot_read(heap, name)),
         GrowingFault::Memory => ListenFault::Command(Fault::Memory),
+    }
+}
+
+/// The same fault of a record that stands behind so many others.
+pub fn refused_behind(fault: RestoreFault, before: usize) -> RestoreFault {
+    match fault {
+        RestoreFault::BadRecord(number) => RestoreFault::BadRecord(before.saturating_add(number)),
+        RestoreFault::Refused(number, line) => {
+            RestoreFault::Refused(before.saturating_add(number), line)
+        }
+        RestoreFault::Memory => RestoreFault::Memory,
     }
 }

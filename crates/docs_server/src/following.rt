@@ -1,13 +1,16 @@
-//! Another server's journal, followed as it grows, over a configuration that is read anew where that is asked for or needed.
+//! Another server's journal, followed as it grows, over a configuration that is read anew where that is asked for or needed: some at a time
+//! beside what is followed, and at once where the journal itself is another one.
 
 ghost use Rattle.std.specs.Prelude.{◌≡◌, ◌≤◌, IfOk, None};
 ghost use Rattle.docs_server.specs.Following.{HasGiven, IsConfiguredBehind};
 
-use crate::followed_journal::{FollowedJournal, take_journal, unread};
+use crate::catching_up::{CatchingUp, CaughtUp};
+use crate::followed_journal::{FollowedJournal, refused_behind, take_journal, unread};
 use crate::listen_fault::ListenFault;
 use crate::pause::has_passed;
 use crate::reload_fault::ReloadFault;
 use crate::reloading::{REFUSED, Reloading};
+use crate::reloading_in_steps::ReloadingInSteps;
 use crate::shared::Shared;
 use doc_media::media::Media;
 use doc_page_parts::heap::Heap;
@@ -39,25 +42,50 @@ const PAUSE: u64 = 1_000;
 const SHORT_PAUSE: u64 = 200;
 
 /// Another server's journal, whose records are served on the pages of a configuration.
-#[derive(Drop)]
 pub struct Following<'a, P: Files> {
     rt: &'a P,
     heap: Heap,
     /// The name of the journal's file.
     name: &'a str,
-    config: Reloading<'a, P>,
+    steps: ReloadingInSteps<'a, P>,
+    /// What was read anew, while the journal's records are made on it.
+    catching_up: Option<CatchingUp>,
+    /// Whether a reload that was asked for begins anew, once what stands under the journal's name is served.
+    is_waiting: bool,
     shared: &'a Shared,
     journal: FollowedJournal,
     /// How many of its records were served before those that were given last.
     before: usize,
     /// The journal that was read anew, until it is told what came of that.
     given: Option<FollowedJournal>,
-    /// Whether a line on standard input asked for it.
-    is_asked: bool,
+    /// Whether it was a reload that gave it.
+    is_reload: bool,
     /// How often something was given.
     count: u64,
     trouble: Option<Trouble>,
     anew: Option<Anew>,
+}
+
+/// Written out, so that it is proved here once: what a derived drop does is proved wherever a value is let go.
+impl<P: Files + Drop> Drop for Following<'_, P> {
+    fn drop(self) {
+        let Following {
+            rt: _,
+            heap: _,
+            name: _,
+            steps: _,
+            catching_up: _,
+            is_waiting: _,
+            shared: _,
+            journal: _,
+            before: _,
+            given: _,
+            is_reload: _,
+            count: _,
+            trouble: _,
+            anew: _,
+        } = self;
+    }
 }
 
 /// A record looks damaged, or the journal isn't read.
@@ -99,12 +127,14 @@ impl<'a, P: AllocGlobal + Clock + Clone + Drop + Eprint + Files<File = File> + I
             rt,
             heap: rt.alloc(),
             name,
-            config,
+            steps: ReloadingInSteps::new(config),
+            catching_up: None,
+            is_waiting: false,
             shared,
             journal,
             before: 0,
             given: None,
-            is_asked: false,
+            is_reload: false,
             count: 0,
             trouble: None,
             anew: None,
@@ -122,22 +152,11 @@ impl<'a, P: AllocGlobal + Clock + Clone + Drop + Eprint + Files<File = File> + I
 
     /// The same where a record isn't made, by its number in the journal.
     fn refused(&self, fault: RestoreFault) -> ListenFault {
-        let fault = match fault {
-            RestoreFault::BadRecord(number) => RestoreFault::BadRecord(self.number(number)),
-            RestoreFault::Refused(number, line) => {
-                RestoreFault::Refused(self.number(number), line)
-            }
-            RestoreFault::Memory => RestoreFault::Memory,
-        };
+        let fault = refused_behind(fault, self.before);
         if let RestoreFault::BadRecord(number) | RestoreFault::Refused(number, _) = fault {
             let _ = eprintln!(self.rt; "{FOLLOWING}: record {number} refused");
         }
         ListenFault::Restore(fault)
-    }
-
-    /// The number in the journal of one of the records that were given last.
-    fn number(&self, number: usize) -> usize {
-        self.before.saturating_add(number)
     }
 
     /// The same where it is damaged, or isn't read.
@@ -158,14 +177,11 @@ impl<'a, P: AllocGlobal + Clock + Clone + Drop + Eprint + Files<File = File> + I
         ListenFault::Journal(OpenFault::Damaged(number))
     }
 
-    /// What is new in the journal, or where it was made anew, what stands there now.
+    /// What is new in the journal, or where another one was found to stand there, what that gives.
     fn follow(&mut self, media: &Option<Media>) -> Result<Option<Given>, FollowFault>
         ensures answers { IfOk result (HasGiven self.new.count) }
         ensures count { self.old.count ≤ self.new.count }
     {
-        if self.anew.is_some() {
-            return Ok(self.start_over(media));
-        }
         self.before = self.journal.followed.records();
         match self.journal.look(self.heap) {
             Ok(Looked::More(texts)) => {
@@ -231,6 +247,7 @@ impl<'a, P: AllocGlobal + Clock + Clone + Drop + Eprint + Files<File = File> + I
         ensures answers { HasGiven self.new.count result }
         ensures count { self.old.count ≤ self.new.count }
     {
+        self.give_up();
         self.anew = Some(Anew {
             is_other,
             tried: None,
@@ -238,6 +255,19 @@ impl<'a, P: AllocGlobal + Clock + Clone + Drop + Eprint + Files<File = File> + I
             is_told: false,
         });
         self.start_over(media)
+    }
+
+    /// What is read anew is given up: of a journal that doesn't stand any more nothing is made. A reload that was asked for begins again
+    /// once the next one is served.
+    fn give_up(&mut self)
+        ensures count { self.new.count ≡ self.old.count }
+    {
+        let is_reading = self.steps.is_reading() || self.catching_up.is_some();
+        if is_reading && self.steps.config.was_asked() {
+            self.is_waiting = true;
+        }
+        self.catching_up = None;
+        self.steps.give_up();
     }
 
     /// What stands under the journal's name, on the pages of the configuration, both as they are now; nothing where that is refused, or it
@@ -252,10 +282,10 @@ impl<'a, P: AllocGlobal + Clock + Clone + Drop + Eprint + Files<File = File> + I
             return None;
         }
         let word = if anew.is_told { None } else { Some(FOLLOWING) };
-        self.config.begin_reload(false);
+        self.steps.config.begin_reload(false);
         match self.read_anew(media, word) {
             Ok(configuration) => {
-                self.is_asked = false;
+                self.is_reload = false;
                 Some(self.give(Given::Configuration(configuration)))
             }
             Err(fault) => {
@@ -266,11 +296,41 @@ impl<'a, P: AllocGlobal + Clock + Clone + Drop + Eprint + Files<File = File> + I
         }
     }
 
+    /// The same; at once, and told, where a line on standard input has asked for it.
+    fn hear_anew(&mut self, media: &Option<Media>, is_asked: bool) -> Option<Given>
+        ensures answers { HasGiven self.new.count result }
+        ensures count { self.old.count ≤ self.new.count }
+    {
+        if is_asked {
+            return self.reload(media);
+        }
+        self.start_over(media)
+    }
+
+    /// The same, as a line on standard input has asked for.
+    fn reload(&mut self, media: &Option<Media>) -> Option<Given>
+        ensures answers { HasGiven self.new.count result }
+        ensures count { self.old.count ≤ self.new.count }
+    {
+        self.is_waiting = false;
+        self.steps.config.begin_reload(false);
+        match self.read_anew(media, Some(REFUSED)) {
+            Ok(configuration) => {
+                self.is_reload = true;
+                Some(self.give(Given::Configuration(configuration)))
+            }
+            Err(fault) => {
+                self.steps.config.refuse(&fault);
+                None
+            }
+        }
+    }
+
     /// It wasn't started over: that is told once, and tried again.
     fn fail<F: Display>(&mut self, fault: &F, is_soon: bool)
         ensures count { self.new.count ≡ self.old.count }
         ensures given { self.new.given ≡ self.old.given }
-        ensures config { self.new.config ≡ self.old.config }
+        ensures config { self.new.steps.config ≡ self.old.steps.config }
     {
         let Some(anew) = self.anew else {
             return;
@@ -286,23 +346,80 @@ impl<'a, P: AllocGlobal + Clock + Clone + Drop + Eprint + Files<File = File> + I
         });
     }
 
-    /// What stands under the journal's name, on the pages of the configuration, as a line on standard input has asked for, or, where it is
-    /// quiet, since files have changed.
-    fn reload(&mut self, media: &Option<Media>, is_quiet: bool) -> Option<Given>
+    /// Reads the configuration anew, some at a time, where that is asked for or files have changed, and makes the journal's records on its
+    /// pages: what is given, once they are made.
+    fn go_on(&mut self, media: &Option<Media>, is_asked: bool) -> Option<Given>
         ensures answers { HasGiven self.new.count result }
         ensures count { self.old.count ≤ self.new.count }
     {
-        self.config.begin_reload(is_quiet);
-        match self.read_anew(media, Some(REFUSED)) {
-            Ok(configuration) => {
-                self.is_asked = true;
-                Some(self.give(Given::Configuration(configuration)))
-            }
-            Err(fault) => {
-                self.config.refuse(&fault);
+        match self.catching_up.take() {
+            Some(catching_up) if !is_asked => self.catch_up(catching_up),
+            _ => {
+                self.read_on(media, is_asked);
                 None
             }
         }
+    }
+
+    /// Reads on, and opens the journal once all is read.
+    fn read_on(&mut self, media: &Option<Media>, is_asked: bool)
+        ensures count { self.new.count ≡ self.old.count }
+    {
+        let Some(made) = self.steps.step(media, is_asked) else {
+            return;
+        };
+        match CatchingUp::begin(self.rt, self.heap, self.name, made) {
+            Ok(catching_up) => self.catching_up = Some(catching_up),
+            Err(fault) => self.refuse_reload(&fault),
+        }
+    }
+
+    /// Makes more of the journal's records: what is given, once no more stand there.
+    fn catch_up(&mut self, catching_up: CatchingUp) -> Option<Given>
+        ensures answers { HasGiven self.new.count result }
+        ensures count { self.old.count ≤ self.new.count }
+    {
+        let mut catching_up = catching_up;
+        match catching_up.part(self.heap, self.name) {
+            Ok(false) => {
+                self.catching_up = Some(catching_up);
+                None
+            }
+            Ok(true) => self.give_caught_up(catching_up),
+            Err(fault) => {
+                self.refuse_reload(&fault);
+                None
+            }
+        }
+    }
+
+    /// A reload is refused for its journal's sake: the next look at the files reads them again.
+    fn refuse_reload(&mut self, fault: &ListenFault)
+        ensures count { self.new.count ≡ self.old.count }
+    {
+        self.steps.config.look_again();
+        self.steps.config.refuse(fault);
+    }
+
+    /// What is given, since the journal's records are made on it.
+    fn give_caught_up(&mut self, catching_up: CatchingUp) -> Option<Given>
+        ensures answers { HasGiven self.new.count result }
+        ensures count { self.old.count ≤ self.new.count }
+    {
+        let Some(
+            CaughtUp {
+                pending,
+                configuration,
+                journal,
+            },
+        ) = catching_up.end()
+        else {
+            return None;
+        };
+        self.steps.config.given = Some(pending);
+        self.given = Some(journal);
+        self.is_reload = true;
+        Some(self.give(Given::Configuration(configuration)))
     }
 
     /// The configuration, read anew, with the edits of the journal that stands under its name now.
@@ -316,7 +433,7 @@ impl<'a, P: AllocGlobal + Clock + Clone + Drop + Eprint + Files<File = File> + I
         ensures count { self.new.count ≡ self.old.count }
     {
         let (journal, texts) = take_journal(self.rt, self.heap, self.name)?;
-        let given = self.config.reload(served, word)?;
+        let given = self.steps.config.reload(served, word)?;
         let Configuration {
             readers,
             pages,
@@ -332,7 +449,7 @@ impl<'a, P: AllocGlobal + Clock + Clone + Drop + Eprint + Files<File = File> + I
                 })
             }
             Err(fault) => {
-                self.config.forget();
+                self.steps.config.forget();
                 Err(ReloadFault::Config(ListenFault::from(fault)))
             }
         }
@@ -352,7 +469,7 @@ impl<'a, P: AllocGlobal + Clock + Clone + Drop + Eprint + Files<File = File> + I
     fn serve(&mut self, reloaded: Reloaded)
         ensures count { self.new.count ≡ self.old.count }
         ensures given { self.new.given ≡ None }
-        ensures config { self.new.config.given ≡ None }
+        ensures config { self.new.steps.config.given ≡ None }
     {
         if let Some(journal) = self.given.take() {
             self.journal = journal;
@@ -364,26 +481,26 @@ impl<'a, P: AllocGlobal + Clock + Clone + Drop + Eprint + Files<File = File> + I
             removed: reloaded.removed,
             records: self.journal.followed.records(),
         };
-        if self.is_asked {
-            self.config.tell_served(reloaded);
+        if self.is_reload {
+            self.steps.config.tell_served(reloaded);
             return;
         }
-        let changed = self.config.serve_given();
-        self.config.tell_made(FOLLOWING, changed, reloaded);
+        let changed = self.steps.config.serve_given();
+        self.steps.config.tell_made(FOLLOWING, changed, reloaded);
     }
 
     /// It is refused.
     fn refuse(&mut self, refusal: Refusal)
         ensures count { self.new.count ≡ self.old.count }
         ensures given { self.new.given ≡ None }
-        ensures config { self.new.config.given ≡ None }
+        ensures config { self.new.steps.config.given ≡ None }
     {
         self.given = None;
-        if self.is_asked {
-            self.config.refuse(&refusal);
+        if self.is_reload {
+            self.steps.config.refuse(&refusal);
             return;
         }
-        self.config.forget();
+        self.steps.config.forget();
         self.fail(&refusal, false);
     }
 }
@@ -397,14 +514,15 @@ impl<P: AllocGlobal + Clock + Clone + Drop + Eprint + Files<File = File> + Input
 
     ghost answered = { λ f answer. HasGiven f.count answer };
 
-    ghost told = { λ f _. (f.given ≡ None) × (f.config.given ≡ None) };
+    ghost told = { λ f _. (f.given ≡ None) × (f.steps.config.given ≡ None) };
 
     fn follows(&self) -> bool {
         true
     }
 
     fn is_busy(&self) -> bool {
-        false
+        let is_busy = self.is_waiting || self.catching_up.is_some() || self.steps.is_under_way();
+        self.anew.is_none() && is_busy
     }
 
     fn hear(
@@ -412,13 +530,16 @@ impl<P: AllocGlobal + Clock + Clone + Drop + Eprint + Files<File = File> + Input
         media: &Option<Media>,
         has_input: bool,
     ) -> Result<Option<Given>, FollowFault> {
-        if has_input && self.config.is_asked() {
-            return Ok(self.reload(media, false));
+        let is_asked = has_input && self.steps.config.is_asked();
+        if self.anew.is_some() {
+            return Ok(self.hear_anew(media, is_asked));
         }
-        if self.anew.is_none() && self.config.is_looking() && self.config.has_changed() {
-            return Ok(self.reload(media, true));
+        let is_asked = is_asked || self.is_waiting;
+        self.is_waiting = false;
+        match self.go_on(media, is_asked) {
+            Some(given) => Ok(Some(given)),
+            None => self.follow(media),
         }
-        self.follow(media)
     }
 
     fn tell(&mut self, outcome: Result<Reloaded, Refusal>) {

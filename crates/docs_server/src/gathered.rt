@@ -1,5 +1,7 @@
 //! What a configuration gives that is read anew, until it is served.
 
+ghost use Rattle.doc_server_files.specs.Configured.{IsConfigured};
+
 use crate::made_pages::MadePages;
 use doc_media::media::Media;
 use doc_page_parts::heap::Heap;
@@ -8,6 +10,7 @@ use doc_server_config::document::Document;
 use doc_server_config::readme::Move;
 use doc_server_files::files::Pages;
 use doc_server_log_names::names::Names;
+use doc_server_serving::given::Configuration;
 use doc_server_streams::fault::Fault;
 
 /// A configuration that isn't served yet.
@@ -21,7 +24,6 @@ pub struct Pending {
 }
 
 /// What a configuration gives, whose files are read.
-#[derive(Drop)]
 pub struct Gathered {
     pub pending: Pending,
     pub pages: Pages,
@@ -29,12 +31,34 @@ pub struct Gathered {
     pub media: Option<Media>,
 }
 
+/// Written out, so that it is proved here once: what a derived drop does is proved wherever a value is let go.
+impl Drop for Gathered {
+    fn drop(self) {
+        let Gathered {
+            pending: _,
+            pages: _,
+            moves: _,
+            media: _,
+        } = self;
+    }
+}
+
 /// The same, once its pages are in a store.
-#[derive(Drop)]
 pub struct Made {
     pub pending: Pending,
     pub pages: MadePages,
     pub media: Option<Media>,
+}
+
+/// Written out, so that it is proved here once: what a derived drop does is proved wherever a value is let go.
+impl Drop for Made {
+    fn drop(self) {
+        let Made {
+            pending: _,
+            pages: _,
+            media: _,
+        } = self;
+    }
 }
 
 impl Gathered {
@@ -52,5 +76,25 @@ impl Gathered {
             pages,
             media,
         })
+    }
+}
+
+impl Made {
+    /// What waits until it is served, and what is served then.
+    pub fn end(self) -> (Pending, Configuration)
+        ensures given { IsConfigured result.1.pages }
+    {
+        let Made {
+            pending,
+            pages,
+            media,
+        } = self;
+        let (readers, pages) = pages.end();
+        let configuration = Configuration {
+            readers,
+            pages,
+            media,
+        };
+        (pending, configuration)
     }
 }

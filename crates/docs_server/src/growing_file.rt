@@ -7,6 +7,8 @@ use doc_page_parts::bytes::Bytes;
 use doc_page_parts::heap::{Heap, Vec};
 use doc_server_follow::growing::Growing;
 use doc_server_follow::growing_fault::GrowingFault;
+use doc_server_journal_records::header::HEADER_LEN;
+use doc_server_journal_records::record::CLOSED_GATE;
 use std::fs::{File, metadata};
 use std::os::unix::fs::FileExt;
 use std::rt::Files;
@@ -51,6 +53,15 @@ impl GrowingFile {
     /// All its bytes.
     pub fn whole(&self, heap: Heap) -> Result<Bytes, GrowingFault> {
         part(heap, &self.file, 0, usize::MAX)
+    }
+
+    /// The header of the journal that it is, and behind that a closed gate: the journal as it was before its first record.
+    pub fn front(&self, heap: Heap) -> Result<Bytes, GrowingFault> {
+        let mut front = part(heap, &self.file, 0, HEADER_LEN)?;
+        match front.extend(&[CLOSED_GATE]) {
+            Ok(()) => Ok(front),
+            Err(_) => Err(GrowingFault::Memory),
+        }
     }
 }
 

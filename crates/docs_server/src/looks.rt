@@ -8,7 +8,6 @@ use std::rt::{Clock, Files};
 use std::time::Duration;
 
 /// Looks at the files of a configuration from time to time: whether they are still as they were before they were read last.
-#[derive(Drop)]
 pub struct Looks<R: Files> {
     /// The pause between two of them; none where nobody looks.
     pause: Option<Pause>,
@@ -16,6 +15,17 @@ pub struct Looks<R: Files> {
     seen: Option<SeenFiles>,
     /// The look at the folders that is under way.
     looking: Option<Looking<R>>,
+}
+
+/// Written out, so that it is proved here once: what a derived drop does is proved wherever a value is let go.
+impl<R: Files + Drop> Drop for Looks<R> {
+    fn drop(self) {
+        let Looks {
+            pause: _,
+            seen: _,
+            looking: _,
+        } = self;
+    }
 }
 
 impl<R: AllocGlobal + Clock + Clone + Drop + Files> Looks<R> {

@@ -15,13 +15,23 @@ use doc_store::readers::Readers;
 use doc_store::store::Store;
 
 /// The pages of a configuration in a store, behind the moves that are made on them.
-#[derive(Drop)]
 pub struct MadePages {
     pages: Pages,
     moves: List<Move>,
     store: Store,
     ghost made: { configured_pages pages.config pages.texts moves ≡ Some (unstamped store) } by { Coded-set (coded_option store-code)
         (configured_pages pages.config pages.texts moves) (Some (unstamped store)) },
+}
+
+/// Written out, so that it is proved here once: what a derived drop does is proved wherever a value is let go.
+impl Drop for MadePages {
+    fn drop(self) {
+        let MadePages {
+            pages: _,
+            moves: _,
+            store: _,
+        } = self;
+    }
 }
 
 impl MadePages {

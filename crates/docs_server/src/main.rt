@@ -3,6 +3,7 @@
 
 mod access_log;
 mod arguments;
+mod catching_up;
 mod changed;
 mod commands;
 mod compacting;

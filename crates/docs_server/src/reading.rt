@@ -17,7 +17,6 @@ const MORE_TRIES: u32 = 8;
 
 /// A configuration whose folders are read a part at a time. Behind the last of their files all are looked at once more: where one isn't as
 /// it was, all are read again.
-#[derive(Drop)]
 pub struct Reading<R: Files> {
     document: Document,
     opened: Opened,
@@ -29,6 +28,21 @@ pub struct Reading<R: Files> {
     looking: Looking<R>,
     /// How often all may still be read again.
     tries: u32,
+}
+
+/// Written out, so that it is proved here once: what a derived drop does is proved wherever a value is let go.
+impl<R: Files + Drop> Drop for Reading<R> {
+    fn drop(self) {
+        let Reading {
+            document: _,
+            opened: _,
+            seen: _,
+            rows: _,
+            is_read: _,
+            looking: _,
+            tries: _,
+        } = self;
+    }
 }
 
 /// A configuration that is read up to its folders.

@@ -16,7 +16,6 @@ use doc_media::media::Media;
 use doc_page_parts::failure::Memory;
 use doc_page_parts::heap::Heap;
 use doc_page_parts::text::Text;
-use doc_server_config::config::SiteConfig;
 use doc_server_config::document::Document;
 use doc_server_files::bounded::{Bounded, bounded_with, opened_of, written_of};
 use doc_server_files::files::{Site, read_file};
@@ -51,7 +50,6 @@ const PAGES: &str = "page";
 const FOLDERS: &str = "folder";
 
 /// A configuration that is served, and that can be read anew.
-#[derive(Drop)]
 pub struct Reloading<'a, P: Files> {
     pub rt: &'a P,
     pub heap: Heap,
@@ -69,6 +67,24 @@ pub struct Reloading<'a, P: Files> {
     shared: &'a Shared,
     looks: Looks<P>,
     refusals: Refusals,
+}
+
+/// Written out, so that it is proved here once: what a derived drop does is proved wherever a value is let go.
+impl<P: Files + Drop> Drop for Reloading<'_, P> {
+    fn drop(self) {
+        let Reloading {
+            rt: _,
+            heap: _,
+            name: _,
+            document: _,
+            media_count: _,
+            given: _,
+            count: _,
+            shared: _,
+            looks: _,
+            refusals: _,
+        } = self;
+    }
 }
 
 impl<'a, P: AllocGlobal + Clock + Clone + Drop + Eprint + Files + Input> Reloading<'a, P> {
@@ -127,6 +143,19 @@ impl<'a, P: AllocGlobal + Clock + Clone + Drop + Eprint + Files + Input> Reloadi
         ensures given { self.new.given ≡ self.old.given }
     {
         self.looks.look(self.rt, self.heap)
+    }
+
+    /// Whether somebody asked for the reload that began last.
+    pub fn was_asked(&self) -> bool {
+        self.refusals.is_asked()
+    }
+
+    /// The next look finds all changed.
+    pub fn look_again(&mut self)
+        ensures count { self.new.count ≡ self.old.count }
+        ensures given { self.new.given ≡ self.old.given }
+    {
+        self.looks.note(self.rt, None);
     }
 
     /// A reload begins, and the pause to the next look. Where it is quiet nobody has asked for it: then it isn't told that nothing has
@@ -202,7 +231,7 @@ impl<'a, P: AllocGlobal + Clock + Clone + Drop + Eprint + Files + Input> Reloadi
         ensures given { self.new.given ≡ self.old.given }
         ensures document { self.new.document ≡ self.old.document }
     {
-        let seen = self.seen_of(&document, &written.config, seen)?;
+        let seen = self.seen_of(&document, &written, seen)?;
         let opened = opened_of(self.rt, self.heap, written)?;
         Ok(OpenedConfig {
             document,
@@ -216,7 +245,7 @@ impl<'a, P: AllocGlobal + Clock + Clone + Drop + Eprint + Files + Input> Reloadi
     fn seen_of(
         &mut self,
         document: &Document,
-        config: &SiteConfig,
+        written: &Written,
         seen: SeenFiles,
     ) -> Result<SeenFiles, ReloadFault>
         ensures count { self.new.count ≡ self.old.count }
@@ -224,7 +253,10 @@ impl<'a, P: AllocGlobal + Clock + Clone + Drop + Eprint + Files + Input> Reloadi
         ensures document { self.new.document ≡ self.old.document }
     {
         match changed_key(self.heap, &self.document.table, &document.table)? {
-            None => Ok(seen.with_named(self.rt, self.heap, config)?),
+            None => {
+                let seen = seen.with_named(self.rt, self.heap, &written.config)?;
+                Ok(seen.with_places(self.rt, self.heap, written.folders.get())?)
+            }
             Some(key) => {
                 self.looks.note(self.rt, Some(seen));
                 Err(ReloadFault::Changed(key))
@@ -299,18 +331,9 @@ impl<'a, P: AllocGlobal + Clock + Clone + Drop + Eprint + Files + Input> Reloadi
         ensures count { self.new.count ≡ self.old.count }
         ensures document { self.new.document ≡ self.old.document }
     {
-        let Made {
-            pending,
-            pages,
-            media,
-        } = made;
+        let (pending, configuration) = made.end();
         self.given = Some(pending);
-        let (readers, pages) = pages.end();
-        Configuration {
-            readers,
-            pages,
-            media,
-        }
+        configuration
     }
 
     /// Tells what came of a reload: it is served from here on.

@@ -16,10 +16,19 @@ use std::fmt::Display;
 use std::rt::{Clock, Files};
 
 /// A configuration that is served, and how far it is read anew, where it is.
-#[derive(Drop)]
 pub struct ReloadingInSteps<'a, P: Files> {
-    config: Reloading<'a, P>,
+    pub config: Reloading<'a, P>,
     stage: Option<Stage<P>>,
+}
+
+/// Written out, so that it is proved here once: what a derived drop does is proved wherever a value is let go.
+impl<P: Files + Drop> Drop for ReloadingInSteps<'_, P> {
+    fn drop(self) {
+        let ReloadingInSteps {
+            config: _,
+            stage: _,
+        } = self;
+    }
 }
 
 /// How far a configuration is read anew.
@@ -58,7 +67,7 @@ impl<P: AllocGlobal + Clock + Clone + Drop + Eprint + Files + Input> Source
     }
 
     fn is_busy(&self) -> bool {
-        self.stage.is_some() || self.config.is_looking()
+        self.is_under_way()
     }
 
     fn hear(
@@ -66,8 +75,11 @@ impl<P: AllocGlobal + Clock + Clone + Drop + Eprint + Files + Input> Source
         media: &Option<Media>,
         has_input: bool,
     ) -> Result<Option<Given>, FollowFault> {
-        let given = self.step(media, has_input);
-        Ok(given)
+        let is_asked = has_input && self.config.is_asked();
+        match self.step(media, is_asked) {
+            Some(made) => Ok(Some(self.give(made))),
+            None => Ok(None),
+        }
     }
 
     fn tell(&mut self, outcome: Result<Reloaded, Refusal>) {
@@ -83,17 +95,33 @@ impl<P: AllocGlobal + Clock + Clone + Drop + Eprint + Files + Input> Source
 }
 
 impl<P: AllocGlobal + Clock + Clone + Drop + Eprint + Files + Input> ReloadingInSteps<'_, P> {
-    /// Begins, where something on standard input asks for it or files have changed, and goes on: what is given.
-    fn step(&mut self, media: &Option<Media>, has_input: bool) -> Option<Given>
-        ensures answers { HasAnswered self.new.config.count result }
-        ensures count { self.old.config.count ≤ self.new.config.count }
+    /// Whether it is read anew, or it is time to look whether files have changed.
+    pub fn is_under_way(&self) -> bool {
+        self.is_reading() || self.config.is_looking()
+    }
+
+    /// Whether it is read anew.
+    pub fn is_reading(&self) -> bool {
+        self.stage.is_some()
+    }
+
+    /// Begins, where that is asked for or files have changed, and goes on: what was made, once it is.
+    pub fn step(&mut self, media: &Option<Media>, is_asked: bool) -> Option<Made>
+        ensures count { self.new.config.count ≡ self.old.config.count }
     {
-        if has_input && self.config.is_asked() {
+        if is_asked {
             self.begin(false);
-        } else if self.stage.is_none() && self.config.is_looking() && self.config.has_changed() {
+        } else if !self.is_reading() && self.config.is_looking() && self.config.has_changed() {
             self.begin(true);
         }
         self.go_on(media)
+    }
+
+    /// It isn't read anew any more.
+    pub fn give_up(&mut self)
+        ensures config { self.new.config ≡ self.old.config }
+    {
+        self.stand_at(None);
     }
 
     /// Begins to read the configuration anew. Where it is refused that is told. It is quiet where nobody has asked for it.
@@ -122,10 +150,9 @@ impl<P: AllocGlobal + Clock + Clone + Drop + Eprint + Files + Input> ReloadingIn
         self.config.refuse(fault);
     }
 
-    /// Goes on from a stage: what is given. Where anything is refused that is told.
-    fn go_on(&mut self, media: &Option<Media>) -> Option<Given>
-        ensures answers { HasAnswered self.new.config.count result }
-        ensures count { self.old.config.count ≤ self.new.config.count }
+    /// Goes on from a stage: what was made, once it is. Where anything is refused that is told.
+    fn go_on(&mut self, media: &Option<Media>) -> Option<Made>
+        ensures count { self.new.config.count ≡ self.old.config.count }
     {
         match self.stage.take() {
             None => None,
@@ -137,7 +164,7 @@ impl<P: AllocGlobal + Clock + Clone + Drop + Eprint + Files + Input> ReloadingIn
                 self.make(gathered);
                 None
             }
-            Some(Stage::Made(made)) => Some(self.give(made)),
+            Some(Stage::Made(made)) => Some(made),
         }
     }
 
