@@ -43,13 +43,25 @@ pub struct Bounds {
 }
 
 /// A server, and what it serves. Behind a turn that was refused it makes no further one.
-#[derive(Drop)]
 pub struct Served<R: Renderer + Drop> {
     server: Server,
     net: MioNetwork,
     saved: SavedHub<MemoryDevice, R>,
     next: NextTurn,
     fault: Option<ServeFault>,
+}
+
+/// Written out, so that it is proved here once: what a derived drop does is proved wherever a value is let go.
+impl<R: Renderer + Drop> Drop for Served<R> {
+    fn drop(self) {
+        let Served {
+            server: _,
+            net: _,
+            saved: _,
+            next: _,
+            fault: _,
+        } = self;
+    }
 }
 
 impl<R: Renderer + Drop> Model for Served<R> {
